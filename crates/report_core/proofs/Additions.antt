@@ -3,6 +3,7 @@ use Rattle.std.proofs.Common.{◌≡◌, ◌↔◌, inl, inr, ℕ, ◌+◌, ◌<
 use mathlib.Core.Logic.{◌⊎◌}
 use Rattle.std.specs.List.{Contains}
 use Rattle.std.proofs.lemmas.List.{take_all}
+use Rattle.std.proofs.lemmas.List.Elements.{Contains-append_cases, Contains-append_left, Contains-append_right}
 use Rattle.trace_core.proofs.SetMembers.{contains_more, contains_pushed}
 use Rattle.report_core.specs.Sources.{AddsTo, AddsToList, ByOne}
 
@@ -31,6 +32,11 @@ module _ {X : Type 0} where
   -- one element more at the end
   pub adds_one : (old new : List X) (y : X) → new ≡ old ++ y ∷ [] → AddsToList old new (λ x. y ≡ x)
   adds_one old new y is x = subst (λ xs. Contains xs x ↔ (Contains old x ⊎ (y ≡ x))) (sym is) (contains_pushed old y x)
+
+  -- all of a list at the end
+  pub adds_all : (old new ys : List X) → new ≡ old ++ ys → AddsToList old new (Contains ys)
+  adds_all old new ys is x = subst (λ xs. Contains xs x ↔ (Contains old x ⊎ Contains ys x)) (sym is)
+      (λ h. Contains-append_cases old ys x h, λ h. ⊎_elim (λ was. Contains-append_left old ys x was) (λ new. Contains-append_right old ys x new) h)
 
 module _ {X Y : Type 0} (P : Y → X → Type 0) (ys : List Y) where
   pub none_by_one : length ys ≤ 0 → (x : X) → ByOne ys P x → ⊥

@@ -1,22 +1,25 @@
 -- The first events that relate two pairs, by the places that stand under their items.
-use Rattle.std.proofs.Common.{◌≡◌, ◌≢◌, ◌↔◌, inl, inr, ℕ, ◌≤◌, Bool, List, length, slice_get, Option, Some, None, refl, sym, ap, ◌∙◌, subst, ⊎_elim, arith}
-use mathlib.Core.Bool.{false≢true}
+use Rattle.std.proofs.Common.{◌≡◌, ◌≢◌, ◌↔◌, inl, inr, ℕ, ◌≤◌, List, length, slice_get, Option, Some, None, refl, sym, ap, ◌∙◌, subst, ⊎_elim, arith}
 use Rattle.std.specs.BTreeMap.{get}
+use Rattle.std.specs.BTreeSet.{BTreeSet}
 use Rattle.std.specs.List.{Contains}
-use Rattle.std.specs.Option.{is_some}
-use Rattle.std.specs.Prelude.{IsTrue}
+use Rattle.std.specs.Ordering.{nat_cmp}
 use Rattle.std.proofs.lemmas.Option.{slice_get-get_or, slice_get_within}
 use Rattle.event_json.specs.Events.{Content}
 use Rattle.event_json.specs.declared.bodies.Body.{Body}
 use Rattle.event_json.specs.declared.bodies.Body.TheVariants.{Note, Ship, Make, Pack}
-use Rattle.trace_core.specs.Pairs.{GivesOut, IsCarriedWith, IsMadeOf, IsSentTo, Ships}
+use Rattle.trace_core.specs.Groups.{IsPartOf, first_of}
+use Rattle.trace_core.specs.Pairs.{GivesOut, IsCarriedWith, IsMadeOf, IsSentTo, Ships, make_id}
+use Rattle.trace_core.specs.Searches.{IsFound}
 use Rattle.trace_core.specs.Sites.{SiteEvents}
 use Rattle.trace_core.specs.declared.pairs.Pair.{Pair}
+use Rattle.trace_core.proofs.LookSteps.{first_alone, first_stands, one_first}
 use Rattle.trace_core.proofs.NumberLists.{some_is, none_is}
+use Rattle.trace_core.proofs.PairTestsDecide.{same_id_decides}
 use Rattle.site_core.specs.ItemSets.{item_cmp}
 use Rattle.report_core.specs.TrailEvents.{AnswersStep, AreOfOneMake, GivesOutWith, IsFirstOrNone, IsFirstShipment, ShipsAt, StandsAt, TakesInAt}
-use Rattle.report_core.specs.FirstPlaces.{AnswersMake, AnswersShipment, Goes, IsJoinedWithOne, IsOneOf, TellsEvent}
-use Rattle.report_core.specs.Sources.{ArePlaces, Index, IsNotedAt, Notes, ShipsOff, or_no_places}
+use Rattle.report_core.specs.FirstPlaces.{AnswersMake, AnswersShipment, AreShipments, Goes, IsGroupAt, IsOfOne, IsOneOf, ShipsOff, TellsEvent}
+use Rattle.report_core.specs.Sources.{AreOwnPlaces, ArePlaces, ByOne, Index, IsNotedAt, Notes, ShipsItself, or_no_places}
 use Rattle.report_core.specs.declared.trail_events.CapturedEvent.{CapturedEvent}
 use Rattle.report_core.specs.declared.trail_events.StepEvents.{StepEvents}
 use Rattle.report_core.specs.declared.trail_events.StepEvents.TheVariants.{Shipped, Made}
@@ -25,14 +28,28 @@ use Rattle.report_core.specs.declared.makers.Noting.{Noting}
 use Rattle.report_core.specs.declared.makers.Noting.TheVariants as notings
 use Rattle.report_core.proofs.FirstFound.{first_alike}
 
--- whether there is a first one of those that are joined
-pub any_joined : (events : List Content) (number event : ℕ) (parts : List EventPlace) (first : Option ℕ) (b : Bool) → b ≡ is_some first
-    → IsFirstOrNone (IsOneOf (λ p. (number ≡ p.site) × AreOfOneMake events event p.event) parts) first → IsTrue b ↔ IsJoinedWithOne events number parts event
-any_joined events number event parts None b is none = (
-  λ yes. absurd (false≢true (sym is ∙ yes)),
-  λ (p, there, here, one). absurd (none p.event (p, there, refl, (here, one))),
-)
-any_joined events number event parts (Some n) b is ((p, there, at, (here, one)), least) = (λ yes. (p, there, here, one), λ joined. is)
+-- two events are parts of one transformation just where it has one first part
+group_joined : (events : List Content) (n m first : ℕ) → IsPartOf events n first → IsPartOf events m first → AreOfOneMake events n m
+group_joined events n m first (e, stands, is) (f, stands', is') =
+    let (g, there, same) = first_stands events n e stands in
+    let (h, there', same') = first_stands events m f stands' in
+    let one : g ≡ h = some_is g h (sym there ∙ ap (slice_get events) (is ∙ sym is') ∙ there') in
+    let ids : make_id e.body ≡ make_id f.body = sym same ∙ ap (λ (c : Content). make_id c.body) one ∙ same' in
+    elim (make_id e.body) as (λ id. make_id e.body ≡ id → AreOfOneMake events n m) [
+      | None ↦ λ none. inl (sym (first_alone events n e.body none) ∙ is ∙ sym is' ∙ first_alone events m f.body (sym ids ∙ none))
+      | Some id ↦ λ some. inr (e, stands, (f, stands', (id, some, sym ids ∙ some)))
+    ] refl
+
+joined_group : (events : List Content) (n m : ℕ) (e f : Content) → slice_get events n ≡ Some e → slice_get events m ≡ Some f → AreOfOneMake events n m → first_of events m f.body ≡ first_of events n e.body
+joined_group events n m e f stands stands' one = ⊎_elim
+    (λ same.
+    let it : f ≡ e = some_is f e (sym stands' ∙ ap (slice_get events) (sym same) ∙ stands) in
+    ap (λ k. first_of events k f.body) (sym same) ∙ ap (λ (c : Content). first_of events n c.body) it)
+    (λ (g, there, (h, there', (id, own, other))).
+    let own' : make_id e.body ≡ Some id = ap (λ (c : Content). make_id c.body) (some_is e g (sym stands ∙ there)) ∙ own in
+    let other' : make_id f.body ≡ Some id = ap (λ (c : Content). make_id c.body) (some_is f h (sym stands' ∙ there')) ∙ other in
+    one_first events m n f e stands ((same_id_decides (make_id f.body) (make_id e.body)).1 (id, other', own')))
+    one
 
 -- a shipment that goes to the site, and ships the item off
 goes_with : (events : List Content) (item : List ℕ) (site : ℕ) (b : Body) → (Goes site b × ShipsOff events item b) ↔ ((carrier : List ℕ) × Ships carrier site b × IsCarriedWith events carrier item)
@@ -47,7 +64,7 @@ goes_with events item site (Ship items sites outside) = (
 module _ (sites : List SiteEvents) (number : ℕ) (s : SiteEvents) (stands : slice_get sites number ≡ Some s) where
   -- what stands under an item, of the site
   listed : (noting : Noting) (index : Index) → ArePlaces noting index sites → (item : List ℕ) (places : List EventPlace) → places ≡ or_no_places (get item_cmp index item)
-      → (p : EventPlace) → number ≡ p.site → Contains places p ↔ StandsAt s.events (Notes noting s.events item) p.event
+      → (p : EventPlace) → number ≡ p.site → Contains places p ↔ StandsAt s.events (Notes noting item) p.event
   listed noting index are item places lent p here = (
     λ h.
         let (t, at, noted) = (are (item, p)).0 (subst (λ ps. Contains ps p) lent h) in
@@ -56,16 +73,20 @@ module _ (sites : List SiteEvents) (number : ℕ) (s : SiteEvents) (stands : sli
     λ noted. subst (λ ps. Contains ps p) (sym lent) ((are (item, p)).1 (s, subst (λ n. slice_get sites n ≡ Some s) here stands, noted)),
   )
 
-  module _ (index : Index) (are : ArePlaces notings.Shipped index sites) (item : List ℕ) (places : List EventPlace) (lent : places ≡ or_no_places (get item_cmp index item)) (to : ℕ) where
+  -- those of the site alone
+  pub own_places : (noting : Noting) (index : Index) → ArePlaces noting index sites → AreOwnPlaces noting s.events number index
+  own_places noting index are item p here = listed noting index are item (or_no_places (get item_cmp index item)) refl p here
+
+  module _ (item : List ℕ) (places : List EventPlace) (are : AreShipments s.events number item places) (to : ℕ) where
     one_of_shipments : (n : ℕ) → IsOneOf (λ p. (number ≡ p.site) × StandsAt s.events (Goes to) p.event) places n ↔ ShipsAt s.events item to n
     one_of_shipments n = (
       λ (p, there, at, (here, (e, stands', goes))).
-          let (f, stands'', off) = (listed notings.Shipped index are item places lent p here).0 there in
+          let (f, stands'', off) = (are p here).0 there in
           let one : f ≡ e = some_is f e (sym stands'' ∙ stands') in
           (e, subst (λ k. slice_get s.events k ≡ Some e) at stands', (goes_with s.events item to e.body).0 (goes, subst (λ (c : Content). ShipsOff s.events item c.body) one off)),
       λ (e, stands', ships).
           let (goes, off) = (goes_with s.events item to e.body).1 ships in
-          (record { site = number; event = n }, (listed notings.Shipped index are item places lent (record { site = number; event = n }) refl).1 (e, stands', off), refl, (refl, (e, stands', goes))),
+          (record { site = number; event = n }, (are (record { site = number; event = n }) refl).1 (e, stands', off), refl, (refl, (e, stands', goes))),
     )
 
     sent_somewhere : IsSentTo s.events item to → (n : ℕ) × ShipsAt s.events item to n
@@ -83,20 +104,36 @@ module _ (sites : List SiteEvents) (number : ℕ) (s : SiteEvents) (stands : sli
     shipment_found n x first told = (n, first_alike (IsOneOf (λ p. (number ≡ p.site) × StandsAt s.events (Goes to) p.event) places) (ShipsAt s.events item to) one_of_shipments n first, told)
 
   module _ (takers givers : Index) (ins : ArePlaces notings.TakenIn takers sites) (outs : ArePlaces notings.GivenOut givers sites) (i j : List ℕ) (taken given : List EventPlace)
-      (lent : taken ≡ or_no_places (get item_cmp takers i)) (lent' : given ≡ or_no_places (get item_cmp givers j)) where
+      (lent : taken ≡ or_no_places (get item_cmp takers i)) (lent' : given ≡ or_no_places (get item_cmp givers j)) (firsts : BTreeSet ℕ)
+      (kept : (n : ℕ) → IsFound nat_cmp firsts n ↔ ByOne given (IsGroupAt s.events number) n) where
     one_of_parts : (n m : ℕ) → IsOneOf (λ p. (number ≡ p.site) × AreOfOneMake s.events n p.event) given m ↔ GivesOutWith s.events j n m
     one_of_parts n m = (
       λ (p, there, at, (here, one)). subst (λ k. GivesOutWith s.events j n k) at ((listed notings.GivenOut givers outs j given lent' p here).0 there, one),
       λ (gives, one). (record { site = number; event = m }, (listed notings.GivenOut givers outs j given lent' (record { site = number; event = m }) refl).1 gives, refl, (refl, one)),
     )
 
-    one_of_makes : (n : ℕ) → IsOneOf (λ p. (number ≡ p.site) × IsJoinedWithOne s.events number given p.event) taken n ↔ TakesInAt s.events i j n
+    one_of_makes : (n : ℕ) → IsOneOf (λ p. (number ≡ p.site) × IsOfOne s.events firsts p.event) taken n ↔ TakesInAt s.events i j n
     one_of_makes n = (
-      λ (p, there, at, (here, (q, there', here', one))). subst (λ k. TakesInAt s.events i j k) at
-          ((listed notings.TakenIn takers ins i taken lent p here).0 there, (q.event, (one_of_parts p.event q.event).0 (q, there', refl, (here', one)))),
-      λ (takes, (m, gives)).
+      λ (p, there, at, (here, (first, part, found))).
+          let (q, there', (here', part')) = (kept first).0 found in
+          subst (λ k. TakesInAt s.events i j k) at
+          ((listed notings.TakenIn takers ins i taken lent p here).0 there, (q.event, (one_of_parts p.event q.event).0 (q, there', refl, (here', group_joined s.events p.event q.event first part part')))),
+      λ ((e, stands', takes), (m, gives)).
           let (q, there', at', (here', one)) = (one_of_parts n m).1 gives in
-          (record { site = number; event = n }, (listed notings.TakenIn takers ins i taken lent (record { site = number; event = n }) refl).1 takes, refl, (refl, (q, there', here', one))),
+          let (f, stands'', gives') = (listed notings.GivenOut givers outs j given lent' q here').0 there' in
+          let p : EventPlace = record { site = number; event = n } in (
+            p,
+            (listed notings.TakenIn takers ins i taken lent p refl).1 (e, stands', takes),
+            refl,
+            (
+              refl,
+              (
+                first_of s.events n e.body,
+                (e, stands', refl),
+                (kept (first_of s.events n e.body)).1 (q, there', (here', (f, stands'', joined_group s.events n q.event e f stands' stands'' one))),
+              ),
+            ),
+          ),
     )
 
     made_somewhere : IsMadeOf s.events i j → (n : ℕ) × TakesInAt s.events i j n
@@ -109,29 +146,30 @@ module _ (sites : List SiteEvents) (number : ℕ) (s : SiteEvents) (stands : sli
         one
 
     -- where no places are found nothing is made of it
-    pub no_make : IsFirstOrNone (IsOneOf (λ p. (number ≡ p.site) × IsJoinedWithOne s.events number given p.event) taken) None → AnswersMake s.events i j None
+    pub no_make : IsFirstOrNone (IsOneOf (λ p. (number ≡ p.site) × IsOfOne s.events firsts p.event) taken) None → AnswersMake s.events i j None
     no_make none made = let (n, takes) = made_somewhere made in none n ((one_of_makes n).1 takes)
 
     -- those that are found have events
-    pub taking_there : (n : ℕ) → IsFirstOrNone (IsOneOf (λ p. (number ≡ p.site) × IsJoinedWithOne s.events number given p.event) taken) (Some n) → TellsEvent s.events n None → ⊥
+    pub taking_there : (n : ℕ) → IsFirstOrNone (IsOneOf (λ p. (number ≡ p.site) × IsOfOne s.events firsts p.event) taken) (Some n) → TellsEvent s.events n None → ⊥
     taking_there n first none = let ((e, there, takes), gives) = (one_of_makes n).0 first.0 in none_is e (sym none ∙ there)
 
     pub giving_there : (n m : ℕ) → IsFirstOrNone (IsOneOf (λ p. (number ≡ p.site) × AreOfOneMake s.events n p.event) given) (Some m) → TellsEvent s.events m None → ⊥
     giving_there n m part none = let ((f, there, gives), one) = (one_of_parts n m).0 part.0 in none_is f (sym none ∙ there)
 
-    pub make_found : (n m : ℕ) (x y : CapturedEvent) → IsFirstOrNone (IsOneOf (λ p. (number ≡ p.site) × IsJoinedWithOne s.events number given p.event) taken) (Some n) → IsFirstOrNone (IsOneOf (λ p. (number ≡ p.site) × AreOfOneMake s.events n p.event) given) (Some m) → TellsEvent s.events n (Some x) → TellsEvent s.events m (Some y) → AnswersMake s.events i j (Some (Made x y))
+    pub make_found : (n m : ℕ) (x y : CapturedEvent) → IsFirstOrNone (IsOneOf (λ p. (number ≡ p.site) × IsOfOne s.events firsts p.event) taken) (Some n) → IsFirstOrNone (IsOneOf (λ p. (number ≡ p.site) × AreOfOneMake s.events n p.event) given) (Some m) → TellsEvent s.events n (Some x) → TellsEvent s.events m (Some y) → AnswersMake s.events i j (Some (Made x y))
     make_found n m x y first part told told' = (
       n,
-      first_alike (IsOneOf (λ p. (number ≡ p.site) × IsJoinedWithOne s.events number given p.event) taken) (TakesInAt s.events i j) one_of_makes n first,
+      first_alike (IsOneOf (λ p. (number ≡ p.site) × IsOfOne s.events firsts p.event) taken) (TakesInAt s.events i j) one_of_makes n first,
       told,
       (m, first_alike (IsOneOf (λ p. (number ≡ p.site) × AreOfOneMake s.events n p.event) given) (GivesOutWith s.events j n) (one_of_parts n) m part, told'),
     )
 
--- the first of those that are joined with one has one that it is joined with
-pub part_there : (events : List Content) (number n : ℕ) (taken given : List EventPlace) → IsFirstOrNone (IsOneOf (λ p. (number ≡ p.site) × IsJoinedWithOne events number given p.event) taken) (Some n)
-    → IsFirstOrNone (IsOneOf (λ p. (number ≡ p.site) × AreOfOneMake events n p.event) given) None → ⊥
-part_there events number n taken given ((p, there, at, (here, (q, there', here', one))), least) none =
-    none q.event (q, there', refl, (here', subst (λ k. AreOfOneMake events k q.event) at one))
+-- the first of those that are parts of one has one that it is joined with
+pub part_there : (events : List Content) (number n : ℕ) (taken given : List EventPlace) (firsts : BTreeSet ℕ) → ((k : ℕ) → IsFound nat_cmp firsts k ↔ ByOne given (IsGroupAt events number) k)
+    → IsFirstOrNone (IsOneOf (λ p. (number ≡ p.site) × IsOfOne events firsts p.event) taken) (Some n) → IsFirstOrNone (IsOneOf (λ p. (number ≡ p.site) × AreOfOneMake events n p.event) given) None → ⊥
+part_there events number n taken given firsts kept ((p, there, at, (here, (first, part, found))), least) none =
+    let (q, there', (here', part')) = (kept first).0 found in
+    none q.event (q, there', refl, (here', group_joined events n q.event first (subst (λ k. IsPartOf events k first) at part) part'))
 
 module _ (sites : List SiteEvents) (p q : Pair) (s : SiteEvents) (stands : slice_get sites p.site ≡ Some s) where
   -- a step inside the site
@@ -168,3 +206,29 @@ module _ (sites : List SiteEvents) (p q : Pair) (s : SiteEvents) (stands : slice
 -- nor where there is no such site
 pub no_site : (sites : List SiteEvents) (p q : Pair) → length sites ≤ p.site → AnswersStep sites p q None
 no_site sites p q past (s, at, related) = omega (arith, past, slice_get_within sites p.site s at)
+
+-- the shipments of all that carries an item
+pub carriers_ship : (s : SiteEvents) (number : ℕ) (item : List ℕ) (sent : Index) (carriers : List Pair) (places : List EventPlace) → AreOwnPlaces notings.Sent s.events number sent
+    → ((p : Pair) → Contains carriers p ↔ ((p.site ≡ s.me) × IsCarriedWith s.events p.item item))
+    → ((p : EventPlace) → Contains places p ↔ ByOne carriers (λ (c : Pair). Contains (or_no_places (get item_cmp sent c.item))) p) → AreShipments s.events number item places
+carriers_ship s number item sent carriers places are exact gathered p here = (
+  λ there.
+      let (c, among, kept) = (gathered p).0 there in
+      let (e, stands, ships) = (are c.item p here).0 kept in
+      (e, stands, ships_off e.body c.item ships ((exact c).0 among).1),
+  λ (e, stands, off).
+      let (carrier, ships, carried) = off_ships e.body off in
+      (gathered p).1 (record { site = s.me; item = carrier }, (exact (record { site = s.me; item = carrier })).1 (refl, carried), (are carrier p here).1 (e, stands, ships)),
+)
+  where
+    ships_off : (b : Body) (carrier : List ℕ) → ShipsItself carrier b → IsCarriedWith s.events carrier item → ShipsOff s.events item b
+    ships_off (Note items) carrier ships carried = absurd ships
+    ships_off (Ship items sites outside) carrier ships carried = (carrier, ships, carried)
+    ships_off (Make id ins outs) carrier ships carried = absurd ships
+    ships_off (Pack action parent children) carrier ships carried = absurd ships
+
+    off_ships : (b : Body) → ShipsOff s.events item b → (carrier : List ℕ) × ShipsItself carrier b × IsCarriedWith s.events carrier item
+    off_ships (Note items) off = absurd off
+    off_ships (Ship items sites outside) (carrier, ships, carried) = (carrier, ships, carried)
+    off_ships (Make id ins outs) off = absurd off
+    off_ships (Pack action parent children) off = absurd off

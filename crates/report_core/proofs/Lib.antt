@@ -6,6 +6,7 @@ pub mod EndedTraces
 pub mod ItemsOfSites
 pub mod EventsInTurn
 pub mod FirstFound
+pub mod FirstParts
 pub mod KnownItems
 pub mod LiesInItems
 pub mod OriginsFound

@@ -15,8 +15,7 @@ use Rattle.event_json.specs.declared.bodies.Body.{Body}
 use Rattle.event_json.specs.declared.bodies.Action.TheVariants.{Add, Observe, Delete}
 use Rattle.event_json.specs.declared.bodies.Body.TheVariants.{Note, Make, Pack, Ship}
 use Rattle.frame_core.proofs.Lookups.{one_key}
-use Rattle.trace_core.specs.Pairs.{Carries, GivesOut, TakesIn}
-use Rattle.trace_core.specs.Relations.{ReachedFrom}
+use Rattle.trace_core.specs.Pairs.{GivesOut, TakesIn}
 use Rattle.trace_core.specs.Sites.{SiteEvents}
 use Rattle.trace_core.proofs.Carrying.{deletes, no_parent, observes}
 use Rattle.trace_core.proofs.Members.{contains_none}
@@ -24,7 +23,7 @@ use Rattle.trace_core.proofs.NumberLists.{some_is}
 use Rattle.trace_core.proofs.SetMembers.{contains_pushed}
 use Rattle.site_core.specs.ItemSets.{item_cmp}
 use Rattle.site_core.proofs.ItemOrder.{item_total, item_exact}
-use Rattle.report_core.specs.Sources.{AddsTo, AreOwnPlaces, ArePlaces, AreSitePlaces, ByOne, Index, IsNotedAt, Keeps, Notes, PutsIn, ShipsItself, ShipsOff, SiteNotes, SitesNote, or_no_places, put_in}
+use Rattle.report_core.specs.Sources.{AddsTo, AreOwnPlaces, ArePlaces, AreSitePlaces, ByOne, Index, IsNotedAt, Keeps, Notes, PutsIn, ShipsItself, SiteNotes, SitesNote, or_no_places, put_in}
 use Rattle.report_core.specs.declared.makers.EventPlace.{EventPlace}
 use Rattle.report_core.specs.declared.makers.Noting.{Noting}
 use Rattle.report_core.proofs.Additions.{adds_alike, adds_then}
@@ -94,18 +93,6 @@ ins_noted old new body id ins outs items place is are adds =
     subst (λ (b : Body). AddsTo (Keeps old) (Keeps new) (λ m. TakesIn m.0 b × (place ≡ m.1))) (sym is)
     (adds_alike (Keeps old) (Keeps new) (NotesEach items place) (λ m. Contains ins m.0 × (place ≡ m.1)) (each_noted items ins place are) adds)
 
--- all that is carried with the items of a shipment
-pub carried_noted : (events : List Content) (old new : Index) (body : Body) (shipped : List (List ℕ)) (sites : List ℕ) (outside given carried items : List (List ℕ)) (place : EventPlace)
-    → body ≡ Ship shipped sites outside → given ≡ shipped → items ≡ carried → ((j : List ℕ) → Contains carried j ↔ ReachedFrom (Carries events) given j)
-    → AddsTo (Keeps old) (Keeps new) (NotesEach items place) → AddsTo (Keeps old) (Keeps new) (λ m. ShipsOff events m.0 body × (place ≡ m.1))
-carried_noted events old new body shipped sites outside given carried items place is are lent exact adds =
-    subst (λ (b : Body). AddsTo (Keeps old) (Keeps new) (λ m. ShipsOff events m.0 b × (place ≡ m.1))) (sym is)
-    (adds_alike (Keeps old) (Keeps new) (NotesEach items place) (λ m. ReachedFrom (Carries events) shipped m.0 × (place ≡ m.1))
-    (λ m. let each = each_noted items carried place lent m in (
-      λ h. let (there, at) = each.0 h in (subst (λ xs. ReachedFrom (Carries events) xs m.0) are ((exact m.0).0 there), at),
-      λ (reached, at). each.1 ((exact m.0).1 (subst (λ xs. ReachedFrom (Carries events) xs m.0) (sym are) reached), at),
-    )) adds)
-
 -- each of the items of a shipment
 pub sent_noted : (old new : Index) (body : Body) (shipped : List (List ℕ)) (sites : List ℕ) (outside items : List (List ℕ)) (place : EventPlace) → body ≡ Ship shipped sites outside → items ≡ shipped
     → AddsTo (Keeps old) (Keeps new) (NotesEach items place) → AddsTo (Keeps old) (Keeps new) (λ m. ShipsItself m.0 body × (place ≡ m.1))
@@ -142,16 +129,16 @@ module _ (noting : Noting) (s : SiteEvents) (number : ℕ) where
 
   -- the event at the place is one more
   pub event_noted : (start old new : Index) (place : ℕ) (e : Content) (body : Body) (at : EventPlace) → slice_get s.events place ≡ Some e → body ≡ e.body → at ≡ record { site = number; event = place }
-      → AddsTo (Keeps start) (Keeps old) (NotesBefore place) → AddsTo (Keeps old) (Keeps new) (λ m. Notes noting s.events m.0 body × (at ≡ m.1)) → AddsTo (Keeps start) (Keeps new) (NotesBefore (place + 1))
+      → AddsTo (Keeps start) (Keeps old) (NotesBefore place) → AddsTo (Keeps old) (Keeps new) (λ m. Notes noting m.0 body × (at ≡ m.1)) → AddsTo (Keeps start) (Keeps new) (NotesBefore (place + 1))
   event_noted start old new place e body at stands is here before adds =
-      adds_alike (Keeps start) (Keeps new) (λ m. NotesBefore place m ⊎ (Notes noting s.events m.0 body × (at ≡ m.1))) (NotesBefore (place + 1))
+      adds_alike (Keeps start) (Keeps new) (λ m. NotesBefore place m ⊎ (Notes noting m.0 body × (at ≡ m.1))) (NotesBefore (place + 1))
       (λ m. (
         λ h. ⊎_elim
             (λ (sooner, makes). (omega (arith, sooner), makes))
             (λ (gives, same).
             let there : record { site = number; event = place } ≡ m.1 = sym here ∙ same in
             let event : place ≡ m.1.event = ap (λ (p : EventPlace). p.event) there in
-            (omega (arith, event), (ap (λ (p : EventPlace). p.site) there, (e, subst (λ n. slice_get s.events n ≡ Some e) event stands, subst (Notes noting s.events m.0) is gives))))
+            (omega (arith, event), (ap (λ (p : EventPlace). p.site) there, (e, subst (λ n. slice_get s.events n ≡ Some e) event stands, subst (Notes noting m.0) is gives))))
             h,
         λ (sooner, (site, (f, stands', gives))). ⊎_elim
             (λ earlier. inl (earlier, (site, (f, stands', gives))))
@@ -159,10 +146,10 @@ module _ (noting : Noting) (s : SiteEvents) (number : ℕ) where
             let event : place ≡ m.1.event = omega (arith, sooner, past) in
             let one : f ≡ e = some_is f e (sym stands' ∙ ap (slice_get s.events) (sym event) ∙ stands) in
             let there : record { site = number; event = place } ≡ m.1 = λ k. record { site = site k; event = event k } in
-            inr (subst (Notes noting s.events m.0) (sym is) (subst (λ (g : Content). Notes noting s.events m.0 g.body) one gives), here ∙ there))
+            inr (subst (Notes noting m.0) (sym is) (subst (λ (g : Content). Notes noting m.0 g.body) one gives), here ∙ there))
             (cases_lt m.1.event place),
       ))
-      (adds_then (Keeps start) (Keeps old) (Keeps new) (NotesBefore place) (λ m. Notes noting s.events m.0 body × (at ≡ m.1)) before adds)
+      (adds_then (Keeps start) (Keeps old) (Keeps new) (NotesBefore place) (λ m. Notes noting m.0 body × (at ≡ m.1)) before adds)
 
   -- all events are gone through
   pub events_noted : (start new : Index) (place : ℕ) → length s.events ≤ place → AddsTo (Keeps start) (Keeps new) (NotesBefore place) → AddsTo (Keeps start) (Keeps new) (SiteNotes noting s number)

@@ -1,11 +1,16 @@
 -- How the first of those events is found that pass a test.
-use Rattle.std.specs.Prelude.{◌≡◌, ℕ, List, Option, None, Some, Contains, slice_get}
+use Rattle.std.specs.Prelude.{◌≡◌, ◌↔◌, ℕ, List, Option, None, Some, Contains, slice_get}
+use Rattle.std.specs.BTreeSet.{BTreeSet}
+use Rattle.std.specs.Ordering.{nat_cmp}
 use Rattle.event_json.specs.Events.{Content}
 use Rattle.event_json.specs.declared.bodies.Body.{Body}
 use Rattle.event_json.specs.declared.bodies.Body.TheVariants.{Note, Ship, Make, Pack}
-use Rattle.trace_core.specs.Pairs.{IsMadeOf, IsSentTo}
+use Rattle.trace_core.specs.Groups.{IsPartOf}
+use Rattle.trace_core.specs.Pairs.{Carries, IsMadeOf, IsSentTo}
+use Rattle.trace_core.specs.Relations.{ReachedFrom}
+use Rattle.trace_core.specs.Searches.{IsFound}
 use Rattle.trace_core.specs.Sites.{SiteEvents}
-use Rattle.report_core.specs.TrailEvents.{AreOfOneMake, IsEventAt, IsFirstMake, IsFirstShipment}
+use Rattle.report_core.specs.TrailEvents.{IsEventAt, IsFirstMake, IsFirstShipment, StandsAt}
 use Rattle.report_core.specs.Sources.{ArePlaces, Index}
 use Rattle.report_core.specs.declared.trail_events.CapturedEvent.{CapturedEvent}
 use Rattle.report_core.specs.declared.trail_events.StepEvents.{StepEvents}
@@ -24,9 +29,24 @@ Goes to (Ship items sites outside) = Contains sites to
 Goes to (Make id ins outs) = ⊥
 Goes to (Pack action parent children) = ⊥
 
--- one of the events at the places of the site is a part of the transformation of the event at the place
-abbrev pub IsJoinedWithOne : List Content → ℕ → List EventPlace → ℕ → Type 0
-IsJoinedWithOne events number places n = (p : EventPlace) × Contains places p × (number ≡ p.site) × AreOfOneMake events n p.event
+-- the transformation that the event at the place is a part of has its first part at this one
+abbrev pub IsGroupAt : List Content → ℕ → EventPlace → ℕ → Type 0
+IsGroupAt events number p first = (number ≡ p.site) × IsPartOf events p.event first
+
+-- the event at the place is a part of one of the transformations that have their first parts at these places
+abbrev pub IsOfOne : List Content → BTreeSet ℕ → ℕ → Type 0
+IsOfOne events firsts n = (first : ℕ) × IsPartOf events n first × IsFound nat_cmp firsts first
+
+-- a shipment of the item, or of what it lies in, to wherever
+abbrev pub ShipsOff : List Content → List ℕ → Body → Type 0
+ShipsOff events item (Note items) = ⊥
+ShipsOff events item (Ship items sites outside) = ReachedFrom (Carries events) items item
+ShipsOff events item (Make id ins outs) = ⊥
+ShipsOff events item (Pack action parent children) = ⊥
+
+-- of the events of the site these places are those of its shipments, and no others
+abbrev pub AreShipments : List Content → ℕ → List ℕ → List EventPlace → Type 0
+AreShipments events number item places = (p : EventPlace) → number ≡ p.site → Contains places p ↔ StandsAt events (ShipsOff events item) p.event
 
 -- the event at the place, none where there is none
 abbrev pub TellsEvent : List Content → ℕ → Option CapturedEvent → Type 0
@@ -45,8 +65,9 @@ AnswersShipment events item site None = IsSentTo events item site → ⊥
 AnswersShipment events item site (Some (Shipped x)) = IsFirstShipment events item site x
 AnswersShipment events item site (Some (Made taken given)) = ⊥
 
--- under each item stand the places of what takes it in, of what gives it out, and of what ships it
-pub record AreRelatingPlaces (sites : List SiteEvents) (taken given shipped : Index) : Type 0 where
+-- under each item stand the places of what takes it in, of what gives it out, of what ships it, and of what puts it into something
+pub record AreRelatingPlaces (sites : List SiteEvents) (taken given sent packings : Index) : Type 0 where
   pub ins : ArePlaces notings.TakenIn taken sites
   pub outs : ArePlaces notings.GivenOut given sites
-  pub off : ArePlaces notings.Shipped shipped sites
+  pub off : ArePlaces notings.Sent sent sites
+  pub put : ArePlaces notings.PutIn packings sites

@@ -7,15 +7,14 @@ use Rattle.event_json.specs.declared.bodies.Action.TheVariants.{Add, Observe, De
 use Rattle.event_json.specs.declared.bodies.Body.{Body}
 use Rattle.event_json.specs.declared.bodies.Body.TheVariants.{Note, Ship, Make, Pack}
 use Rattle.trace_core.specs.Groups.{IsSeen}
-use Rattle.trace_core.specs.Pairs.{TakesIn, GivesOut, AreOneMake, Carries, IsShipped, Packs}
-use Rattle.trace_core.specs.Relations.{ReachedFrom}
+use Rattle.trace_core.specs.Pairs.{TakesIn, GivesOut, AreOneMake, IsShipped, Packs}
 use Rattle.trace_core.specs.Sites.{SiteEvents}
 use Rattle.trace_core.specs.declared.groups.Group.{Group}
 use Rattle.trace_core.specs.declared.pairs.Pair.{Pair}
 use Rattle.site_core.specs.ItemSets.{item_cmp}
 use Rattle.report_core.specs.declared.makers.EventPlace.{EventPlace}
 use Rattle.report_core.specs.declared.makers.Noting.{Noting}
-use Rattle.report_core.specs.declared.makers.Noting.TheVariants.{TakenIn, GivenOut, Shipped, Sent, PutIn}
+use Rattle.report_core.specs.declared.makers.Noting.TheVariants.{TakenIn, GivenOut, Sent, PutIn}
 
 -- just those of P are added
 abbrev pub AddsTo : {X : Type 0} → (X → Type 0) → (X → Type 0) → (X → Type 0) → Type 0
@@ -42,13 +41,6 @@ or_no_places (Some places) = places
 abbrev pub Keeps : Index → List ℕ × EventPlace → Type 0
 Keeps index m = Contains (or_no_places (get item_cmp index m.0)) m.1
 
--- a shipment of the item, or of what it lies in, to wherever
-abbrev pub ShipsOff : List Content → List ℕ → Body → Type 0
-ShipsOff events item (Note items) = ⊥
-ShipsOff events item (Ship items sites outside) = ReachedFrom (Carries events) items item
-ShipsOff events item (Make id ins outs) = ⊥
-ShipsOff events item (Pack action parent children) = ⊥
-
 -- a shipment of the item itself, to wherever
 abbrev pub ShipsItself : List ℕ → Body → Type 0
 ShipsItself item (Note items) = ⊥
@@ -71,16 +63,15 @@ put_in (Pack Observe parent children) = []
 put_in (Pack Delete parent children) = []
 
 -- an event is noted under the item
-abbrev pub Notes : Noting → List Content → List ℕ → Body → Type 0
-Notes TakenIn events item body = TakesIn item body
-Notes GivenOut events item body = GivesOut item body
-Notes Shipped events item body = ShipsOff events item body
-Notes Sent events item body = ShipsItself item body
-Notes PutIn events item body = PutsIn item body
+abbrev pub Notes : Noting → List ℕ → Body → Type 0
+Notes TakenIn item body = TakesIn item body
+Notes GivenOut item body = GivesOut item body
+Notes Sent item body = ShipsItself item body
+Notes PutIn item body = PutsIn item body
 
 -- at the place stands such an event
 abbrev pub IsNotedAt : Noting → List Content → List ℕ → ℕ → Type 0
-IsNotedAt noting events item place = (e : Content) × (slice_get events place ≡ Some e) × Notes noting events item e.body
+IsNotedAt noting events item place = (e : Content) × (slice_get events place ≡ Some e) × Notes noting item e.body
 
 -- the site at this place among all has one there
 abbrev pub SiteNotes : Noting → SiteEvents → ℕ → List ℕ × EventPlace → Type 0

@@ -1,13 +1,18 @@
 //! The first of those events that pass a test.
-ghost use Rattle.std.specs.Prelude.{◌≡◌, ◌↔◌, ◌⊎◌, ◌≤◌, ℕ, IsTrue, Some};
+ghost use Rattle.std.specs.Prelude.{◌≡◌, ◌↔◌, ◌⊎◌, ◌≤◌, ℕ, IfOk, IsTrue, OnOk, Some};
+ghost use Rattle.std.specs.Ordering.{nat_cmp};
 ghost use Rattle.trace_core.specs.Pairs.{HaveOneId, make_id};
 ghost use Rattle.report_core.specs.TrailEvents.{AreOfOneMake, IsFirstOrNone, StandsAt};
-ghost use Rattle.report_core.specs.FirstPlaces.{Goes, IsJoinedWithOne, IsOneOf};
+ghost use Rattle.trace_core.specs.Searches.{IsFound};
+ghost use Rattle.report_core.specs.FirstPlaces.{Goes, IsGroupAt, IsOfOne, IsOneOf};
+ghost use Rattle.report_core.specs.Sources.{AddsTo, ByOne};
 ghost use Rattle.report_core.specs.declared.makers.EventPlace.{EventPlace};
 
 use crate::makers::EventPlace;
 use crate::sources::id_of;
 use event_json::{Body, SiteNo};
+use std::alloc::{AllocError, Global};
+use std::collections::BTreeSet;
 use trace_core::Captured;
 
 /// A test of the event at a place.
@@ -140,37 +145,68 @@ fn have_one_id(one: &Body, other: &Body) -> bool
     }
 }
 
-/// Whether one of some events is a part of the transformation of an event of the site at a place among all.
+/// Whether an event of the site at a place among all is a part of one of some transformations, which are told by the
+/// places of their first parts.
 #[derive(Drop)]
-pub struct JoinedWithOne<'a> {
+pub struct OfOne<'a> {
     pub site: &'a Captured,
     pub number: usize,
-    pub parts: &'a [EventPlace],
+    pub firsts: &'a BTreeSet<usize>,
 }
 
-impl PlaceTest for JoinedWithOne<'_> {
+impl PlaceTest for OfOne<'_> {
     ghost use Rattle.std.specs.Prelude.{◌≡◌};
-    ghost use Rattle.report_core.specs.FirstPlaces.{IsJoinedWithOne};
+    ghost use Rattle.report_core.specs.FirstPlaces.{IsOfOne};
 
-    ghost holds = { λ t p. (t.number ≡ p.site)
-        × IsJoinedWithOne t.site.now.events t.number t.parts.now p.event };
+    ghost holds = { λ t p. (t.number ≡ p.site) × IsOfOne t.site.now.events t.firsts.now p.event };
 
     fn test(&self, place: EventPlace) -> bool {
-        self.number == place.site && self.joins(place.event)
+        self.number == place.site && is_of_one(self.site, self.firsts, place.event)
     }
 }
 
-impl JoinedWithOne<'_> {
-    /// Whether one of the events is a part of the transformation of the one at a place.
-    fn joins(&self, event: usize) -> bool
-        ensures { IsTrue result ↔ IsJoinedWithOne self.now.site.now.events self.now.number
-            self.now.parts.now event }
-    {
-        let test = JoinedWith {
-            site: self.site,
-            number: self.number,
-            event,
-        };
-        first_where(&test, self.parts).is_some()
+/// Whether the event at a place is a part of one of the transformations that have their first parts at these places.
+fn is_of_one(site: &Captured, firsts: &BTreeSet<usize>, place: usize) -> bool
+    ensures { IsTrue result ↔ IsOfOne site.now.events firsts.now place }
+{
+    match site.first_part(place) {
+        Some(first) => firsts.contains(&first),
+        None => false,
     }
+}
+
+/// The first parts of the transformations that those of the events at some places are parts of which are the site's.
+pub fn firsts_of(
+    alloc: Global,
+    site: &Captured,
+    number: usize,
+    places: &[EventPlace],
+) -> Result<BTreeSet<usize>, AllocError>
+    ensures { IfOk result (λ firsts. (n : ℕ) → IsFound nat_cmp firsts n
+        ↔ ByOne places.now (IsGroupAt site.now.events number) n) }
+{
+    let mut firsts = BTreeSet::new(alloc);
+    for place in places {
+        note_first(site, number, *place, &mut firsts)?;
+    }
+    Ok(firsts)
+}
+
+/// Notes the first part of the transformation of the event at a place, if it is one of the site.
+fn note_first(
+    site: &Captured,
+    number: usize,
+    place: EventPlace,
+    firsts: &mut BTreeSet<usize>,
+) -> Result<(), AllocError>
+    ensures { OnOk result (AddsTo (IsFound nat_cmp firsts.old) (IsFound nat_cmp firsts.new)
+        (IsGroupAt site.now.events number place)) }
+{
+    if place.site != number {
+        return Ok(());
+    }
+    if let Some(first) = site.first_part(place.event) {
+        firsts.insert(first)?;
+    }
+    Ok(())
 }

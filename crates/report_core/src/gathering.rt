@@ -1,7 +1,8 @@
 //! How the shipments out of the traced sites are found: from what is told of up to what it lay in, and to the
 //! shipments of that.
 ghost use Rattle.std.specs.Prelude.{◌≡◌, OnOk};
-ghost use Rattle.report_core.specs.Gathering.{Adds, BodyTells, Goes, ItemTells, OneTells, PlaceTells, RecordTells, SiteTells};
+ghost use Rattle.report_core.specs.Gathering.{Adds, BodyTells, Goes, ItemTells, OneTells, PlaceTells};
+ghost use Rattle.report_core.specs.Gathering.{RecordTells, SiteTells};
 ghost use Rattle.report_core.specs.Sources.{AreOwnPlaces, AreSitePlaces};
 ghost use Rattle.report_core.specs.declared.makers.Noting.TheVariants.{PutIn, Sent};
 

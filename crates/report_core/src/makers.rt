@@ -5,7 +5,8 @@ ghost use Rattle.site_core.specs.ItemSets.{item_cmp};
 ghost use Rattle.std.specs.BTreeMap.{get};
 ghost use Rattle.trace_core.specs.Chains.{sites_at};
 ghost use Rattle.trace_core.specs.Pairs.{GivesOut, TakesIn};
-ghost use Rattle.report_core.specs.Sources.{AddsTo, AreMakers, ArePlaces, ByOne, Keeps, Notes, PutsIn, ShipsItself, ShipsOff, SiteNotes, or_no_places, put_in};
+ghost use Rattle.report_core.specs.Sources.{AddsTo, AreMakers, ArePlaces, ByOne, Keeps, Notes};
+ghost use Rattle.report_core.specs.Sources.{PutsIn, ShipsItself, SiteNotes, or_no_places, put_in};
 
 use epc_core::Epc;
 use event_json::{Action, Body};
@@ -30,9 +31,7 @@ pub enum Noting {
     TakenIn,
     /// The transformations that give it out.
     GivenOut,
-    /// The shipments of it, or of what it lies in.
-    Shipped,
-    /// The shipments of the item itself.
+    /// The shipments of the item itself, without those of what it lay in.
     Sent,
     /// The packings that put it into something.
     PutIn,
@@ -99,8 +98,7 @@ pub fn makers_of(
     places_of(alloc, sites, Noting::GivenOut)
 }
 
-/// For each item the places of the events that are noted under it. Goes over the events of all sites once, and over
-/// what lies in the items of each shipment where shipments are noted.
+/// For each item the places of the events that are noted under it. Goes over the events of all sites once.
 pub fn places_of(
     alloc: Global,
     sites: &[&Captured],
@@ -132,7 +130,7 @@ fn note_site(
                 site: number,
                 event: place,
             };
-            note_body(alloc, site, event.body(), place, noting, index)?;
+            note_body(alloc, event.body(), place, noting, index)?;
         }
     }
     Ok(())
@@ -141,19 +139,17 @@ fn note_site(
 /// Notes an event's place.
 fn note_body(
     alloc: Global,
-    site: &Captured,
     body: &Body,
     place: EventPlace,
     noting: Noting,
     index: &mut BTreeMap<Epc, EventPlaces>,
 ) -> Result<(), AllocError>
     ensures { OnOk result (AddsTo (Keeps index.old) (Keeps index.new)
-        (λ m. Notes noting site.now.events m.0 body.now × (place ≡ m.1))) }
+        (λ m. Notes noting m.0 body.now × (place ≡ m.1))) }
 {
     match noting {
         Noting::TakenIn => note_taken(alloc, body, place, index),
         Noting::GivenOut => note_given(alloc, body, place, index),
-        Noting::Shipped => note_shipped(alloc, site, body, place, index),
         Noting::Sent => note_sent(alloc, body, place, index),
         Noting::PutIn => note_put(alloc, body, place, index),
     }
@@ -188,26 +184,6 @@ fn note_given(
     match body {
         Body::Make { outs, .. } => note_items(alloc, outs.as_slice(), place, index),
         Body::Note { .. } | Body::Ship { .. } | Body::Pack { .. } => Ok(()),
-    }
-}
-
-/// Notes a shipment's place under each of its items, and under all that lies in them.
-fn note_shipped(
-    alloc: Global,
-    site: &Captured,
-    body: &Body,
-    place: EventPlace,
-    index: &mut BTreeMap<Epc, EventPlaces>,
-) -> Result<(), AllocError>
-    ensures { OnOk result (AddsTo (Keeps index.old) (Keeps index.new)
-        (λ m. ShipsOff site.now.events m.0 body.now × (place ≡ m.1))) }
-{
-    match body {
-        Body::Ship { items, .. } => {
-            let carried = site.carried_with(items.as_slice())?;
-            note_items(alloc, carried.as_slice(), place, index)
-        }
-        Body::Note { .. } | Body::Make { .. } | Body::Pack { .. } => Ok(()),
     }
 }
 

@@ -2,12 +2,14 @@
 ghost use Rattle.std.specs.Prelude.{◌≡◌, Some, IfOk, option_map, slice_get};
 ghost use Rattle.trace_core.specs.Chains.{sites_at};
 ghost use Rattle.report_core.specs.TrailEvents.{AnswersStep};
-ghost use Rattle.report_core.specs.FirstPlaces.{AnswersMake, AnswersShipment, TellsEvent};
-ghost use Rattle.report_core.specs.Sources.{or_no_places};
+ghost use Rattle.report_core.specs.FirstPlaces.{AnswersMake, AnswersShipment, AreShipments, TellsEvent};
+ghost use Rattle.report_core.specs.Sources.{AreOwnPlaces};
+ghost use Rattle.report_core.specs.declared.makers.Noting.TheVariants.{PutIn, Sent};
 
+use crate::containers::{Containers, carriers_of};
 use crate::event_times::time_of;
-use crate::first_places::{GoesTo, JoinedWith, JoinedWithOne, first_where};
-use crate::makers::{EventPlace, EventPlaces, Noting, places_of};
+use crate::first_places::{GoesTo, JoinedWith, OfOne, first_where, firsts_of};
+use crate::makers::{EventPlace, EventPlaces, Noting, places_of, places_under};
 use crate::trail_events::{CapturedEvent, StepEvents};
 use epc_core::Epc;
 use event_json::PlainText;
@@ -16,13 +18,14 @@ use std::collections::BTreeMap;
 use std::marker::Model;
 use trace_core::{Captured, Pair};
 
-/// What several sites captured, and which of it takes each item in, gives it out and ships it.
+/// What several sites captured, and which of it takes each item in, gives it out, ships it and puts it into something.
 #[derive(Drop)]
 pub(crate) struct RelatingEvents<'a> {
     sites: &'a [&'a Captured],
     taken: BTreeMap<Epc, EventPlaces>,
     given: BTreeMap<Epc, EventPlaces>,
-    shipped: BTreeMap<Epc, EventPlaces>,
+    sent: BTreeMap<Epc, EventPlaces>,
+    packings: BTreeMap<Epc, EventPlaces>,
 }
 
 impl<'a> Model for RelatingEvents<'a> {
@@ -35,28 +38,31 @@ impl<'a> Model for RelatingEvents<'a> {
 
     ghost view = { λ s. sites_at s.sites.now };
 
-    ghost invariant = { λ s. AreRelatingPlaces (sites_at s.sites.now) s.taken s.given s.shipped };
+    ghost invariant = { λ s. AreRelatingPlaces (sites_at s.sites.now) s.taken s.given s.sent
+        s.packings };
 }
 
 impl<'a> RelatingEvents<'a> {
-    /// Of several sites. Goes over their events three times, and over what lies in the items of each shipment.
+    /// Of several sites. Goes over their events four times.
     pub fn of(alloc: Global, sites: &'a [&'a Captured]) -> Result<RelatingEvents<'a>, AllocError>
         ensures { IfOk result (λ events. events ≡ sites_at sites.now) }
     {
         let taken = places_of(alloc, sites, Noting::TakenIn)?;
         let given = places_of(alloc, sites, Noting::GivenOut)?;
-        let shipped = places_of(alloc, sites, Noting::Shipped)?;
+        let sent = places_of(alloc, sites, Noting::Sent)?;
+        let packings = places_of(alloc, sites, Noting::PutIn)?;
         Ok(RelatingEvents {
             sites,
             taken,
             given,
-            shipped,
+            sent,
+            packings,
         })
     }
 
     /// The first events that relate a pair to another one, by the site of the first pair, where one does. The sites
-    /// stand in the order of their numbers. Looks at the events that take the one item in, each with those that give
-    /// the other one out; or at the shipments that the item was carried with.
+    /// stand in the order of their numbers. Looks at the events that take the one item in and at those that give the
+    /// other one out; or at what the item lay in, and at the shipments of that.
     ///
     /// # Errors
     /// Out of memory.
@@ -94,12 +100,13 @@ impl<'a> RelatingEvents<'a> {
         requires { slice_get self.now number ≡ Some site.now }
         ensures { IfOk result (AnswersMake site.now.events item.now made.now) }
     {
-        let taken = slice_of(self.taken.get(item));
-        let given = slice_of(self.given.get(made));
-        let test = JoinedWithOne {
+        let taken = places_under(&self.taken, item);
+        let given = places_under(&self.given, made);
+        let firsts = firsts_of(alloc, site, number, given)?;
+        let test = OfOne {
             site,
             number,
-            parts: given,
+            firsts: &firsts,
         };
         let Some(first) = first_where(&test, taken) else {
             return Ok(None);
@@ -140,7 +147,13 @@ impl<'a> RelatingEvents<'a> {
             number,
             to: to.site,
         };
-        let Some(first) = first_where(&test, slice_of(self.shipped.get(&to.item))) else {
+        let containers = Containers {
+            site,
+            number,
+            packings: &self.packings,
+        };
+        let places = shipments_of(alloc, &containers, &self.sent, &to.item)?;
+        let Some(first) = first_where(&test, places.as_slice()) else {
             return Ok(None);
         };
         match told(alloc, site, first)? {
@@ -150,14 +163,25 @@ impl<'a> RelatingEvents<'a> {
     }
 }
 
-/// The places, none where there are none.
-fn slice_of(places: Option<&EventPlaces>) -> &[EventPlace]
-    ensures { result.now ≡ or_no_places (option_map (λ p. p.now) places.entry) }
+/// The places of the shipments of an item, or of what it lay in.
+fn shipments_of(
+    alloc: Global,
+    containers: &Containers<'_>,
+    sent: &BTreeMap<Epc, EventPlaces>,
+    item: &Epc,
+) -> Result<Vec<EventPlace>, AllocError>
+    requires packings { AreOwnPlaces PutIn containers.now.site.now.events containers.now.number
+        containers.now.packings.now }
+    requires sent { AreOwnPlaces Sent containers.now.site.now.events containers.now.number sent.now }
+    ensures { IfOk result (λ places. AreShipments containers.now.site.now.events
+        containers.now.number item.now places.items) }
 {
-    match places {
-        Some(places) => places.as_slice(),
-        None => &[],
+    let carriers = carriers_of(alloc, containers, item)?;
+    let mut places = Vec::new(alloc);
+    for carrier in carriers.as_slice() {
+        places.extend_from_slice(places_under(sent, &carrier.item))?;
     }
+    Ok(places)
 }
 
 /// What is told of the event at a place, if there is one.

@@ -27,9 +27,8 @@ use std::alloc::{AllocError, Global};
 /// Reports a recall as `report` does, and tells along each trail the first captured events that relate the pairs of
 /// each of its steps, or in brief of its last step alone. Of a pair without a trail no events are told.
 ///
-/// Goes over the events of all sites three times, and over what lies in the items of each shipment; for each step that
-/// is told at the events that take its first item in, each with those that give its second one out, or at those that
-/// ship it.
+/// Goes over the events of all sites four times, and looks for each step that is told at the events that take its first
+/// item in and at those that give its second one out, or at what the item lay in and at the shipments of that.
 ///
 /// # Errors
 /// As `report`.

@@ -6,9 +6,6 @@ returns-in-TakenIn c = rw c.in-TakenIn.is c.note_taken.ensures
 pub returns-in-GivenOut : goal.returns-in-GivenOut
 returns-in-GivenOut c = rw c.in-GivenOut.is c.note_given.ensures
 
-pub returns-in-Shipped : goal.returns-in-Shipped
-returns-in-Shipped c = rw c.in-Shipped.is c.note_shipped.ensures
-
 pub returns-in-Sent : goal.returns-in-Sent
 returns-in-Sent c = rw c.in-Sent.is c.note_sent.ensures
 

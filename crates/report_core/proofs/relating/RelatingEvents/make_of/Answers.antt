@@ -1,8 +1,7 @@
-use Rattle.std.proofs.Common.{◌≡◌, ◌∙◌, List, Some, ap, slice_get, subst, sym}
+use Rattle.std.proofs.Common.{◌≡◌, List, Some, slice_get, subst, sym}
 use Rattle.trace_core.specs.Chains.{sites_at}
 use Rattle.trace_core.specs.Sites.{SiteEvents}
 use Rattle.report_core.specs.FirstPlaces.{TellsEvent}
-use Rattle.report_core.specs.Sources.{or_no_places}
 use Rattle.report_core.proofs.EventsRelating.{giving_there, make_found, no_make, part_there, taking_there}
 use Rattle.report_core.proofs.relating.RelatingEvents.make_of.Goals as goal
 
@@ -12,13 +11,13 @@ returns-in_default c =
     let s = c.args.site.now in
     let number = c.args.number in
     let stands : slice_get own number ≡ Some s = subst (λ (sites : List SiteEvents). slice_get sites number ≡ Some s) (sym c.self.view_is) c.requires in
-    no_make own number s stands c.self.inside.taken c.self.inside.given c.self.invariant.ins c.self.invariant.outs c.args.item.now c.args.made.now c.slice_of-taken.result.now c.slice_of-given.result.now
-    (c.slice_of-taken.ensures ∙ ap or_no_places c.get.ensures.value) (c.slice_of-given.ensures ∙ ap or_no_places c.get-2.ensures.value)
+    no_make own number s stands c.self.inside.taken c.self.inside.given c.self.invariant.ins c.self.invariant.outs c.args.item.now c.args.made.now c.places_under-taken.result.now c.places_under-given.result.now
+    c.places_under-taken.ensures c.places_under-given.ensures c.in_ok-firsts.firsts c.in_ok-firsts.ensures
     c.in_default.ensures
 
 -- the first one is joined with one
 pub returns-in_default-first_where : goal.returns-in_default-first_where
-returns-in_default-first_where c = absurd (part_there c.args.site.now.events c.args.number c.in-Some.first c.slice_of-taken.result.now c.slice_of-given.result.now c.in-Some.ensures c.in_default-first_where.ensures)
+returns-in_default-first_where c = absurd (part_there c.args.site.now.events c.args.number c.in-Some.first c.places_under-taken.result.now c.places_under-given.result.now c.in_ok-firsts.firsts c.in_ok-firsts.ensures c.in-Some.ensures c.in_default-first_where.ensures)
 
 -- there are such events
 pub returns-in_default-2 : goal.returns-in_default-2
@@ -27,8 +26,8 @@ returns-in_default-2 c =
     let s = c.args.site.now in
     let number = c.args.number in
     let stands : slice_get own number ≡ Some s = subst (λ (sites : List SiteEvents). slice_get sites number ≡ Some s) (sym c.self.view_is) c.requires in
-    absurd (taking_there own number s stands c.self.inside.taken c.self.inside.given c.self.invariant.ins c.self.invariant.outs c.args.item.now c.args.made.now c.slice_of-taken.result.now c.slice_of-given.result.now
-    (c.slice_of-taken.ensures ∙ ap or_no_places c.get.ensures.value) (c.slice_of-given.ensures ∙ ap or_no_places c.get-2.ensures.value)
+    absurd (taking_there own number s stands c.self.inside.taken c.self.inside.given c.self.invariant.ins c.self.invariant.outs c.args.item.now c.args.made.now c.places_under-taken.result.now c.places_under-given.result.now
+    c.places_under-taken.ensures c.places_under-given.ensures c.in_ok-firsts.firsts c.in_ok-firsts.ensures
     c.in-Some.first c.in-Some.ensures (subst (TellsEvent s.events c.in-Some.first) c.in_default-2.is c.in_ok-taken_in.ensures))
 
 pub returns-in_default-3 : goal.returns-in_default-3
@@ -37,8 +36,8 @@ returns-in_default-3 c =
     let s = c.args.site.now in
     let number = c.args.number in
     let stands : slice_get own number ≡ Some s = subst (λ (sites : List SiteEvents). slice_get sites number ≡ Some s) (sym c.self.view_is) c.requires in
-    absurd (giving_there own number s stands c.self.inside.taken c.self.inside.given c.self.invariant.ins c.self.invariant.outs c.args.item.now c.args.made.now c.slice_of-taken.result.now c.slice_of-given.result.now
-    (c.slice_of-taken.ensures ∙ ap or_no_places c.get.ensures.value) (c.slice_of-given.ensures ∙ ap or_no_places c.get-2.ensures.value)
+    absurd (giving_there own number s stands c.self.inside.taken c.self.inside.given c.self.invariant.ins c.self.invariant.outs c.args.item.now c.args.made.now c.places_under-taken.result.now c.places_under-given.result.now
+    c.places_under-taken.ensures c.places_under-given.ensures c.in_ok-firsts.firsts c.in_ok-firsts.ensures
     c.in-Some.first c.in-Some-first_where.part c.in-Some-first_where.ensures (subst (TellsEvent s.events c.in-Some-first_where.part) c.in_default-3.is c.in_ok-given_out.ensures))
 
 pub returns : goal.returns
@@ -47,7 +46,7 @@ returns c =
     let s = c.args.site.now in
     let number = c.args.number in
     let stands : slice_get own number ≡ Some s = subst (λ (sites : List SiteEvents). slice_get sites number ≡ Some s) (sym c.self.view_is) c.requires in
-    make_found own number s stands c.self.inside.taken c.self.inside.given c.self.invariant.ins c.self.invariant.outs c.args.item.now c.args.made.now c.slice_of-taken.result.now c.slice_of-given.result.now
-    (c.slice_of-taken.ensures ∙ ap or_no_places c.get.ensures.value) (c.slice_of-given.ensures ∙ ap or_no_places c.get-2.ensures.value)
+    make_found own number s stands c.self.inside.taken c.self.inside.given c.self.invariant.ins c.self.invariant.outs c.args.item.now c.args.made.now c.places_under-taken.result.now c.places_under-given.result.now
+    c.places_under-taken.ensures c.places_under-given.ensures c.in_ok-firsts.firsts c.in_ok-firsts.ensures
     c.in-Some.first c.in-Some-first_where.part c.in-Some-2.taken_in c.in-Some-3.given_out c.in-Some.ensures c.in-Some-first_where.ensures
     (subst (TellsEvent s.events c.in-Some.first) c.in-Some-2.is c.in_ok-taken_in.ensures) (subst (TellsEvent s.events c.in-Some-first_where.part) c.in-Some-3.is c.in_ok-given_out.ensures)
