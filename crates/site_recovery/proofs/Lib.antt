@@ -27,6 +27,7 @@ pub mod Worlds
 pub mod Joined
 pub mod Gathering
 pub mod ToldItems
+pub mod SitesLeft
 pub mod ReachedItems
 pub mod Justified
 pub mod HeldPairs

@@ -2,7 +2,7 @@
 use Rattle.std.proofs.Common.{◌≡◌, ◌⊎◌, ◌↔◌, inl, inr, ℕ, zero, suc, ◌+◌, ◌<◌, ◌≤◌, Bor, List, [], ◌∷◌, ◌++◌, length, get_or, drop, slice_set, Some, None, refl, sym, ap, ◌∙◌, subst, arith}
 use mathlib.Core.Bool.{false≢true}
 use Rattle.std.specs.Cmp.{nat_cmp_total}
-use Rattle.std.specs.FinMap.{empty, entries, get, get-empty, nat_cmp-IsAntisymmetric}
+use Rattle.std.specs.FinMap.{empty, get, get-empty, nat_cmp-IsAntisymmetric}
 use Rattle.std.specs.List.{Contains}
 use Rattle.std.specs.Prelude.{IsTrue}
 use Rattle.std.proofs.lemmas.List.{drop_more, get_or-set_other, get_or-set_same, get_or_default, length-set}
@@ -17,9 +17,10 @@ use Rattle.site_core.specs.Quarantines.{Quarantine, held, with_item}
 use Rattle.site_core.specs.Records.{Record}
 use Rattle.site_core.proofs.Held.{none_held}
 use Rattle.site_core.proofs.HeldLaws.{held_one}
-use Rattle.site_recovery.specs.Checking.{Adds, HeldIn, IsReachedBy, records_at, world_at}
+use Rattle.site_recovery.specs.Checking.{Adds, HeldIn, IsBegun, IsReachedBy, IsWithinAt, records_at, world_at}
 use Rattle.site_recovery.specs.FittingAt.{AreAllSites}
 use Rattle.site_recovery.specs.Laws.{captured_of}
+use Rattle.site_recovery.specs.Looks as looks
 use Rattle.site_recovery.specs.Looks.{own}
 use Rattle.site_recovery.proofs.Absent.{none_begun}
 use Rattle.site_core.proofs.Entries.{entry_found, entry_there}
@@ -120,13 +121,20 @@ module _ {X : Type 0} (P : X → Recall → Pair → Type 0) (old : List Quarant
         );
   }
 
+-- One recall.
+
+pub alone_reached : (captured : List SiteEvents) (count : ℕ) (recall : Recall) (root : List ℕ) (nothing reached : List Quarantine) → length nothing ≡ count → ((r : Recall) (p : Pair) → HeldIn nothing r p → ⊥)
+    → Adds (λ r p. (r ≡ recall) × Reaches (Related captured) (record { site = recall.site; item = root }) p) nothing reached
+    → (p : Pair) → p.site < count → HeldIn reached recall p ↔ Reaches (Related captured) (record { site = recall.site; item = root }) p
+alone_reached captured count recall root nothing reached counted none adds p below = (
+  λ h. elim ((adds.exact recall p).0 h) as (λ _. Reaches (Related captured) (record { site = recall.site; item = root }) p) [
+    | inl came ↦ came.0.1
+    | inr was ↦ absurd (none recall p was)
+  ],
+  λ reach. (adds.exact recall p).1 (inl ((refl, reach), subst (λ n. p.site < n) (sym counted) below)),
+)
+
 -- All recalls of all sites.
-
-abbrev pub OwnReaches : List SiteEvents → ℕ → List (ℕ × Own) → Recall → Pair → Type 0
-OwnReaches captured site es r p = (k : ℕ) × (o : Own) × Contains es (k, o) × (r ≡ record { site = site; number = k }) × Reaches (Related captured) (record { site = site; item = o.root }) p
-
-abbrev pub SiteReaches : List SiteEvents → Bor Record → Recall → Pair → Type 0
-SiteReaches captured x r p = OwnReaches captured x.now.engagement.me (entries x.now.engagement.own) r p
 
 module _ (refs : List (Bor Record)) (all : AreAllSites (records_at refs)) where
   begun_at_one : (r : Recall) (o : Own) → own (world_at refs) r.site r.number ≡ Some o → r.site < length refs
@@ -135,45 +143,29 @@ module _ (refs : List (Bor Record)) (all : AreAllSites (records_at refs)) where
     | inr past ↦ absurd (let none : None ≡ Some o = none_begun (world_at refs) r.site (past_end refs r.site past) r.number ∙ is in cc)
   ]
 
-  pub sites_reach : (r : Recall) (p : Pair) → ((x : Bor Record) × Contains refs x × SiteReaches (captured_of (records_at refs)) x r p) ↔ IsReachedBy (records_at refs) r p
-  sites_reach r p = (
-    λ (x, (s, below, at), (k, o, among, is, reach)).
-        let here : world_at refs s ≡ x.now = site_of refs s x below at in
-        let me : x.now.engagement.me ≡ s = ap (λ z. z.engagement.me) (sym here) ∙ place_of refs all s below in
-        let name : r ≡ record { site = s; number = k } = is ∙ ap (λ z. record { site = z; number = k }) me in
-        let begun : own (world_at refs) s k ≡ Some o = ap (λ z. get z.engagement.own k) here ∙ entry_found nat_cmp_total x.now.engagement.own k o among in
-        subst (λ (z : Recall). IsReachedBy (records_at refs) z p) (sym name)
-        (o, begun, subst (λ z. Reaches (Related (captured_of (records_at refs))) (record { site = z; item = o.root }) p) me reach),
-    λ (o, begun, reach).
-        let below = begun_at_one r o begun in
-        let x = some_site refs r.site below in
-        let me : x.0.now.engagement.me ≡ r.site = ap (λ z. z.engagement.me) (sym x.2) ∙ place_of refs all r.site below in
-        let among = entry_there nat_cmp_total nat_cmp-IsAntisymmetric x.0.now.engagement.own r.number o (sym (ap (λ z. get z.engagement.own r.number) x.2) ∙ begun) in (
-          x.0,
-          x.1,
-          (
-            r.number,
-            o,
-            among,
-            ap (λ z. record { site = z; number = r.number }) (sym me),
-            subst (λ z. Reaches (Related (captured_of (records_at refs))) (record { site = z; item = o.root }) p) (sym me) reach,
-          ),
-        ),
+  -- what is held at a site under recalls that were begun is in reach of their roots just where it is so under each recall of each site
+  pub reached_within : (s : ℕ) → (((r : Recall) (i : List ℕ) → looks.Held (world_at refs) s r i → IsBegun (world_at refs) r) × IsWithinAt refs s)
+      ↔ ((r : Recall) (i : List ℕ) → looks.Held (world_at refs) s r i → IsReachedBy (records_at refs) r (record { site = s; item = i }))
+  reached_within s = (
+    λ (begun, within) r i holds.
+        let (o, is) = begun r i holds in
+        let x = some_site refs r.site (begun_at_one r o is) in
+        let me : x.0.now.engagement.me ≡ r.site = ap (λ z. z.engagement.me) (sym x.2) ∙ place_of refs all r.site (begun_at_one r o is) in
+        let among = entry_there nat_cmp_total nat_cmp-IsAntisymmetric x.0.now.engagement.own r.number o (sym (ap (λ z. get z.engagement.own r.number) x.2) ∙ is) in
+        let reach = within x.0 x.1 (r.number, o) among i (subst (λ z. looks.Held (world_at refs) s (record { site = z; number = r.number }) i) (sym me) holds) in
+        (o, is, subst (λ z. Reaches (Related (captured_of (records_at refs))) (record { site = z; item = o.root }) (record { site = s; item = i })) me reach),
+    λ reached. (
+      λ r i holds. let (o, is, reach) = reached r i holds in (o, is),
+      λ x (t, below, at) (k, o) among i holds.
+          let here : world_at refs t ≡ x.now = site_of refs t x below at in
+          let me : x.now.engagement.me ≡ t = ap (λ z. z.engagement.me) (sym here) ∙ place_of refs all t below in
+          let begun : own (world_at refs) t k ≡ Some o = ap (λ z. get z.engagement.own k) here ∙ entry_found nat_cmp_total x.now.engagement.own k o among in
+          let (p, is, reach) = reached (record { site = x.now.engagement.me; number = k }) i holds in
+          let one : Some p ≡ Some o = sym is ∙ ap (λ z. own (world_at refs) z k) me ∙ begun in
+          let same : p ≡ o = cc in
+          subst (λ (z : Own). Reaches (Related (captured_of (records_at refs))) (record { site = x.now.engagement.me; item = z.root }) (record { site = s; item = i })) same reach,
+    ),
   )
-
-  pub all_recalls : (events : List SiteEvents) (nothing reached : List Quarantine) → events ≡ captured_of (records_at refs) → length nothing ≡ length refs → ((r : Recall) (p : Pair) → HeldIn nothing r p → ⊥)
-      → Adds (λ r p. (x : Bor Record) × Contains refs x × SiteReaches events x r p) nothing reached → (r : Recall) (p : Pair) → HeldIn reached r p ↔ (IsReachedBy (records_at refs) r p × (p.site < length refs))
-  all_recalls events nothing reached listed count none adds r p =
-      let come : HeldIn reached r p ↔ ((((x : Bor Record) × Contains refs x × SiteReaches (captured_of (records_at refs)) x r p) × (p.site < length refs)) ⊎ HeldIn nothing r p) =
-      subst (λ es. HeldIn reached r p ↔ ((((x : Bor Record) × Contains refs x × SiteReaches es x r p) × (p.site < length refs)) ⊎ HeldIn nothing r p)) listed
-      (subst (λ n. HeldIn reached r p ↔ ((((x : Bor Record) × Contains refs x × SiteReaches events x r p) × (p.site < n)) ⊎ HeldIn nothing r p)) count (adds.exact r p))
-      in (
-        λ h. elim (come.0 h) as (λ _. IsReachedBy (records_at refs) r p × (p.site < length refs)) [
-          | inl came ↦ ((sites_reach r p).0 came.0, came.1)
-          | inr was ↦ absurd (none r p was)
-        ],
-        λ (reach, below). come.1 (inl ((sites_reach r p).1 reach, below)),
-      )
 
 pub none_from : {X : Type 0} (xs : List X) (i : ℕ) → length xs ≤ i → drop i xs ≡ []
 none_from [] zero past = refl

@@ -9,9 +9,9 @@ use crate::closing::Closed;
 use crate::conditions::{Both, Condition, least_unmet};
 use crate::homeward::{ParentsLeadHome, ParentsStand};
 use crate::justifying::{Rooted, RowsJustified};
+use crate::narrowing::sites_within;
 use crate::numbers::{HeldBelow, OwnBelow, RowsBelow, SeenBelow};
-use crate::reached_items::all_reached;
-use crate::reaching::Reached;
+use crate::reaching::{Begun, Within};
 use crate::telling::{Taken, Told};
 use crate::waiting::{EndsAreQuiet, Waiting};
 use event_json::SiteNo;
@@ -70,11 +70,14 @@ fn check_justified(alloc: Global, sites: &[&SiteState]) -> Result<(), CheckFault
     ensures fault { IfErr result (TellsUnmet 3 (length sites.now)
         (IsJustifiedAt (world_at sites.now))) }
 {
-    match all_reached(alloc, sites) {
-        Ok(reached) => {
+    match sites_within(alloc, sites) {
+        Ok(within) => {
             let justified = Both {
-                first: Reached {
-                    reached: reached.as_slice(),
+                first: Both {
+                    first: Begun,
+                    second: Within {
+                        within: within.as_slice(),
+                    },
                 },
                 second: Both {
                     first: Rooted,

@@ -9,6 +9,7 @@ mod homeward;
 mod justifying;
 pub mod laws;
 mod looks;
+mod narrowing;
 mod numbers;
 mod pairs;
 mod places;

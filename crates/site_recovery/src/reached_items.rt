@@ -1,22 +1,15 @@
-//! What each site would hold if each recall held just what its root reaches.
-ghost use Rattle.std.specs.Prelude.{◌≡◌, ◌<◌, ◌↔◌, ℕ, List, length, IfOk, OnOk, Contains};
+//! What each site would hold if a recall held just what its root reaches.
+ghost use Rattle.std.specs.Prelude.{◌≡◌, ◌<◌, ◌↔◌, length, IfOk, OnOk, Contains};
 ghost use Rattle.frame_core.specs.Numbers.{Recall};
-ghost use Rattle.scholten_core.specs.declared.own_recalls.Own.{Own};
 ghost use Rattle.trace_core.specs.Chains.{Related, sites_at};
 ghost use Rattle.trace_core.specs.Relations.{Reaches};
 ghost use Rattle.trace_core.specs.declared.pairs.Pair.{Pair};
-ghost use Rattle.site_recovery.specs.Checking.{records_at, Adds, HeldIn, IsReachedBy};
-ghost use Rattle.site_recovery.specs.FittingAt.{AreAllSites};
-ghost use Rattle.site_recovery.specs.Laws.{captured_of};
+ghost use Rattle.site_recovery.specs.Checking.{Adds, HeldIn};
 
-use crate::recalls::captured;
 use epc_core::Epc;
-use event_json::SiteNo;
 use frame_core::RecallId;
-use scholten_core::Own;
-use site_core::{Quarantine, SiteState};
+use site_core::Quarantine;
 use std::alloc::{AllocError, Global};
-use std::collections::BTreeMap;
 use trace_core::{Captured, Pair, reach};
 
 /// No items at any of so many sites.
@@ -77,48 +70,19 @@ fn hold_reach(
     hold_pairs(reached, recall, pairs)
 }
 
-/// Adds what the roots of a site's recalls reach.
-fn hold_own(
+/// What each of so many sites would hold if it held just what the recall's root reaches.
+pub(crate) fn reached_by(
     alloc: Global,
     captured: &[&Captured],
-    reached: &mut Vec<Quarantine>,
-    site: SiteNo,
-    own: &BTreeMap<u64, Own>,
-) -> Result<(), AllocError>
-    ensures { OnOk result (Adds (λ r p. (k : ℕ) × (o : Own) × Contains own.now.entries (k, o)
-        × (r ≡ record { site = site; number = k }) × Reaches (Related (sites_at captured.now))
-        (record { site = site; item = o.root }) p) reached.old.items reached.new.items) }
-{
-    for (number, own) in own {
-        let recall = RecallId {
-            site,
-            number: *number,
-        };
-        hold_reach(alloc, captured, reached, recall, &own.root)?;
-    }
-    Ok(())
-}
-
-/// What each site would hold if each recall held just what its root reaches. Each recall's reach is
-/// found once.
-pub(crate) fn all_reached(
-    alloc: Global,
-    sites: &[&SiteState],
+    count: usize,
+    recall: RecallId,
+    root: &Epc,
 ) -> Result<Vec<Quarantine>, AllocError>
-    requires all { AreAllSites (records_at sites.now) }
-    ensures { IfOk result (λ reached. (r : Recall) (p : Pair) → HeldIn reached.items r p
-        ↔ (IsReachedBy (records_at sites.now) r p × (p.site < length sites.now))) }
+    ensures { IfOk result (λ reached. (p : Pair) → p.site < count → HeldIn reached.items recall p
+        ↔ Reaches (Related (sites_at captured.now))
+        (record { site = recall.site; item = root.now }) p) }
 {
-    let captured = captured(alloc, &*sites)?;
-    let mut reached = nothing_held(alloc, sites.len())?;
-    for state in sites {
-        hold_own(
-            alloc,
-            captured.as_slice(),
-            &mut reached,
-            state.me(),
-            state.own_recalls(),
-        )?;
-    }
+    let mut reached = nothing_held(alloc, count)?;
+    hold_reach(alloc, captured, &mut reached, recall, root)?;
     Ok(reached)
 }

@@ -1,46 +1,55 @@
 //! What is quarantined is in reach of its recall's root.
-ghost use Rattle.std.specs.Prelude.{◌≡◌, ◌↔◌, ℕ, List, IfOk, IsTrue, get_or};
-ghost use Rattle.std.specs.FinMap.{empty};
+ghost use Rattle.std.specs.Prelude.{◌↔◌, ℕ, List, IsTrue, false, get_or};
+ghost use Rattle.site_recovery.specs.Checking.{world_at, IsBegun};
 
 use crate::conditions::Condition;
 use crate::every::{EntryTest, Test, each_entry, each_key};
+use crate::looks::own;
 use epc_core::Epc;
 use event_json::SiteNo;
 use frame_core::RecallId;
-use site_core::{ItemSet, Quarantine, SiteState};
+use site_core::{ItemSet, SiteState};
 use std::alloc::{AllocError, Global};
 
-/// An item that is held under the recall.
-#[derive(Drop)]
-struct HeldItem<'a> {
-    reached: &'a Quarantine,
-    recall: RecallId,
-}
-
-impl Test<Epc> for HeldItem<'_> {
-    ghost use Rattle.std.specs.Prelude.{IsTrue};
-    ghost use Rattle.site_core.specs.Quarantines.{held};
-
-    ghost holds = { λ t i. IsTrue (held t.reached.now t.recall i) };
-
-    fn passes(&self, _alloc: Global, item: &Epc) -> Result<bool, AllocError> {
-        Ok(self.reached.holds(self.recall, item))
+/// Whether the recall was begun.
+fn is_begun(sites: &[&SiteState], recall: RecallId) -> bool
+    ensures { IsTrue result ↔ IsBegun (world_at sites.now) recall }
+{
+    match own(sites, recall.site, recall.number) {
+        Some(_) => true,
+        None => false,
     }
 }
 
-/// A set of items that are held under its recall.
+/// Any item, if so it is said.
 #[derive(Drop)]
-struct HeldSet<'a> {
-    reached: &'a Quarantine,
+struct AnyItem {
+    passes: bool,
 }
 
-impl EntryTest<RecallId, ItemSet> for HeldSet<'_> {
+impl Test<Epc> for AnyItem {
+    ghost use Rattle.std.specs.Prelude.{IsTrue};
+
+    ghost holds = { λ t i. IsTrue t.passes };
+
+    fn passes(&self, _alloc: Global, _item: &Epc) -> Result<bool, AllocError> {
+        Ok(self.passes)
+    }
+}
+
+/// A set of items of a recall that was begun, or one without items.
+#[derive(Drop)]
+struct BegunSet<'a> {
+    sites: &'a [&'a SiteState],
+}
+
+impl EntryTest<RecallId, ItemSet> for BegunSet<'_> {
     ghost use Rattle.std.specs.Prelude.{ℕ, List, IsTrue};
     ghost use Rattle.site_core.specs.ItemSets as set;
-    ghost use Rattle.site_core.specs.Quarantines.{held};
+    ghost use Rattle.site_recovery.specs.Checking.{world_at, IsBegun};
 
     ghost holds = { λ t r items. (i : List ℕ) → IsTrue (set.contains items i)
-        → IsTrue (held t.reached.now r i) };
+        → IsBegun (world_at t.sites.now) r };
 
     fn passes(
         &self,
@@ -48,51 +57,62 @@ impl EntryTest<RecallId, ItemSet> for HeldSet<'_> {
         recall: &RecallId,
         items: &ItemSet,
     ) -> Result<bool, AllocError> {
-        let held = HeldItem {
-            reached: self.reached,
-            recall: *recall,
+        let any = AnyItem {
+            passes: is_begun(self.sites, *recall),
         };
-        each_key(alloc, items.items(), &held)
+        each_key(alloc, items.items(), &any)
     }
 }
 
-/// What is held at the site, `none` where it is past the end.
-fn held_at<'a>(reached: &'a [Quarantine], none: &'a Quarantine, site: SiteNo) -> &'a Quarantine
-    requires { none.now ≡ empty }
-    ensures { result.now ≡ get_or reached.now site empty }
-{
-    let place = site.number() as usize;
-    if place < reached.len() {
-        &reached[place]
-    } else {
-        none
-    }
-}
-
-/// What is quarantined at the site is among what it would hold, as these tell, each by its site.
+/// What is quarantined at the site is so under recalls that were begun.
 #[derive(Drop)]
-pub(crate) struct Reached<'a> {
-    pub(crate) reached: &'a [Quarantine],
-}
+pub(crate) struct Begun;
 
-impl Condition for Reached<'_> {
+impl Condition for Begun {
     ghost use Rattle.std.specs.Prelude.{ℕ, List};
     ghost use Rattle.frame_core.specs.Numbers.{Recall};
-    ghost use Rattle.site_recovery.specs.Checking.{HeldIn};
+    ghost use Rattle.site_recovery.specs.Checking.{IsBegun};
     ghost use Rattle.site_recovery.specs.Looks.{Held};
 
-    ghost holds = { λ c W s. (r : Recall) (i : List ℕ) → Held W s r i
-        → HeldIn c.reached.now r (record { site = s; item = i }) };
+    ghost holds = { λ _ W s. (r : Recall) (i : List ℕ) → Held W s r i → IsBegun W r };
 
     fn holds_at(
         &self,
         alloc: Global,
-        _sites: &[&SiteState],
-        site: SiteNo,
+        sites: &[&SiteState],
+        _site: SiteNo,
         state: &SiteState,
     ) -> Result<bool, AllocError> {
-        let none = Quarantine::new(alloc);
-        let reached = held_at(self.reached, &none, site);
-        each_entry(alloc, state.quarantine().by_recall(), &HeldSet { reached })
+        each_entry(alloc, state.quarantine().by_recall(), &BegunSet { sites })
+    }
+}
+
+/// Whether a site is among these, by its number.
+fn is_left(within: &[bool], site: SiteNo) -> bool
+    ensures { IsTrue result ↔ IsTrue (get_or within.now site false) }
+{
+    let place = site.number() as usize;
+    place < within.len() && within[place]
+}
+
+/// The site is one of these.
+#[derive(Drop)]
+pub(crate) struct Within<'a> {
+    pub(crate) within: &'a [bool],
+}
+
+impl Condition for Within<'_> {
+    ghost use Rattle.std.specs.Prelude.{IsTrue, false, get_or};
+
+    ghost holds = { λ c W s. IsTrue (get_or c.within.now s false) };
+
+    fn holds_at(
+        &self,
+        _alloc: Global,
+        _sites: &[&SiteState],
+        site: SiteNo,
+        _state: &SiteState,
+    ) -> Result<bool, AllocError> {
+        Ok(is_left(self.within, site))
     }
 }
