@@ -13,7 +13,7 @@ use Rattle.world_core.specs.Worlds.{Standing, Up, Down, record_of}
 use Rattle.world_core.specs.declared.events.Answer.{Answer}
 use Rattle.world_core.specs.declared.events.Answer.TheVariants.{Done, Reopened, Stopped}
 use Rattle.world_core.proofs.KeptSteps.{stands_append}
-use Rattle.command_line.proofs.RunParts.{no_acts, one_more_act, parts_go_on}
+use Rattle.world_core.proofs.RunParts.{no_acts, one_more_act, parts_go_on}
 use Rattle.site_threads.specs.Gathering.{StandsThere}
 use Rattle.command_line.specs.Lives.{IsOwn}
 

@@ -12,5 +12,4 @@ pub mod LivedCommands
 pub mod LivedFolders
 pub mod LivedRows
 pub mod LivedRuns
-pub mod RunParts
 pub mod LivedEnds

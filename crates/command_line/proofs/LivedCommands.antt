@@ -13,7 +13,7 @@ use Rattle.site_core.specs.Records.{Record}
 use Rattle.site_core.specs.declared.inputs.SiteInput.{SiteInput}
 use Rattle.world_core.specs.Keepers.{AllShow, StandsAs}
 use Rattle.world_core.specs.Worlds.{Standing, Up, Down, record_of}
-use Rattle.command_line.proofs.RunParts.{runs_are_parts}
+use Rattle.world_core.proofs.RunParts.{runs_are_parts}
 use Rattle.wire_core.specs.Rule.{world_up}
 use Rattle.wire_core.proofs.Running.{up_records}
 use Rattle.site_threads.specs.Gathering.{AllStandThere, RanAsAWorld, StandsThere, WorldLeadsTo}

@@ -13,8 +13,8 @@ use Rattle.world_core.specs.Turns.{GoesDown}
 use Rattle.world_core.specs.Worlds.{Standing, Up, record_of, records}
 use Rattle.world_core.proofs.FreshSites.{fresh_sites_fit}
 use Rattle.world_core.proofs.Parts.{parts_come_out}
-use Rattle.command_line.proofs.RunParts.{get_set, get_set_other}
-use Rattle.command_line.proofs.RunParts.{came_more, no_acts, parts_go_on}
+use Rattle.world_core.proofs.RunParts.{get_set, get_set_other}
+use Rattle.world_core.proofs.RunParts.{came_more, no_acts, parts_go_on}
 use Rattle.wire_core.specs.Rule.{world_up}
 use Rattle.wire_core.proofs.Running.{up_records}
 use Rattle.command_line.specs.Lives.{ActTogether, FoldersComeOut, IsOwn, Lives, WasGiven, WasKilled, WasKilledAt}

@@ -8,7 +8,7 @@ use Rattle.site_core.specs.Records.{Record}
 use Rattle.world_core.specs.Keepers.{StandsAs}
 use Rattle.world_core.specs.Parts.{CameAfter, given_by}
 use Rattle.world_core.specs.Worlds.{Standing, Up, record_of}
-use Rattle.command_line.proofs.RunParts.{parts_go_on, runs_are_parts}
+use Rattle.world_core.proofs.RunParts.{parts_go_on, runs_are_parts}
 use Rattle.wire_core.specs.Rule.{world_up}
 use Rattle.site_threads.specs.Gathering.{AllStandThere, StandsThere, WorldLeadsTo}
 use Rattle.site_threads.proofs.Steps.{next_me}

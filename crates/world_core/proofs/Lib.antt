@@ -27,5 +27,6 @@ pub mod CanEnd
 pub mod Addressed
 pub mod Opened
 pub mod Parts
+pub mod RunParts
 pub mod Copies
 pub mod MorePins

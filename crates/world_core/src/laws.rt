@@ -5,7 +5,7 @@ ghost use Rattle.world_core.specs.Counting.{MessagesAreCounted};
 ghost use Rattle.world_core.specs.EndingLaws.{EveryRecallCanEnd, FramesFindTheirSite, FreshSitesAreGoing, RunsKeepGoing};
 ghost use Rattle.world_core.specs.FormingLaws.{FreshSitesMakeAWorld, OnlyMemoryHindersAWorld};
 ghost use Rattle.world_core.specs.Laws.{EndedStays, WorldEndsAreExact, FramesStay, FreshSitesFit, QuarantinesAscend, RunsComeOut, RunsFromTheStartComeOut, RunsKeepTheFit, SitesStandAsKept, TurnsKeepTheFit};
-ghost use Rattle.world_core.specs.Parts.{PartsComeOut, PartsMakeARun};
+ghost use Rattle.world_core.specs.Parts.{PartsComeOut, PartsGoOn, PartsMakeARun, RunsAreParts};
 ghost use Rattle.world_core.specs.MorePins.{FreshSitesHaveNumbers, MomentsAreAll, NumbersAreCounted, SentFramesAreFound, StartsBegin};
 ghost use Rattle.world_core.specs.PinLaws.{AnsweredEndsStand, AnsweredStepsAreWhole, BrokenStepsAreEither, EndsAreTold, NothingElseEnds, OthersAreAbsent, RunsMakeAWorldAgain, StartsTellTheEnd};
 ghost use Rattle.world_core.specs.SendingLaws.{FramesWereEmittable};
@@ -98,10 +98,12 @@ pub fn a_frame_finds_its_site()
 {}
 
 /// What sites do in processes of their own is a run of the world, in whatever order it came, where each frame that came
-/// to a site is for it and was given before.
+/// to a site is for it and was given before; and what a run does at its sites are such acts.
 pub fn parts_make_a_run()
     ensures run { PartsMakeARun }
     ensures out { PartsComeOut }
+    ensures back { RunsAreParts }
+    ensures on { PartsGoOn }
 {}
 
 /// Copies of all sites' records, each taken at whatever moment from the end of a recall on, hold under it just what its

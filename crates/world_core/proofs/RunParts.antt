@@ -19,22 +19,10 @@ use Rattle.world_core.specs.declared.events.WorldEvent.TheVariants.{Step, Send, 
 use Rattle.world_core.specs.declared.events.Answer.{Answer}
 use Rattle.world_core.specs.declared.events.Answer.TheVariants.{Done, Fault, Sent, NoFrame, NoSite, Stopped, Reopened, NotReopened, NotClosed, NoMemory}
 use Rattle.world_core.specs.KeptSteps.{StandsAfter}
-use Rattle.world_core.specs.Parts.{Act, Given, Halted, Gave, Opened, Acts, AreActs, CameAfter, Deed, IsCarried, acts_at, came, came_in, gave, given_by, world_after}
+use Rattle.world_core.specs.Parts.{Act, Given, Halted, Gave, Opened, Acts, AreActs, CameAfter, Deed, PartsGoOn, RunsAreParts, IsCarried, acts_at, came, came_in, gave, given_by, world_after}
 use Rattle.world_core.specs.Turns.{Runs, Sends, Steps, Stops, TurnsAt, TurnsFrom, addressee, frame_at, input_at, input_of_frame, site_of}
 use Rattle.world_core.specs.Worlds.{Standing, Up, Down, WorldState}
 use Rattle.world_core.proofs.KeptSteps.{stands_append}
-
--- Whatever a run does at its sites are acts, by frames that are carried so.
-abbrev pub RunsAreParts : Type 0
-RunsAreParts =
-    (old : WorldState) (events : List WorldEvent) (answers : List Answer) (new : WorldState) → Runs old events answers new
-    → (deeds : List Deed) × AreActs old.sites deeds new.sites × CameAfter old.sent deeds × (new ≡ world_after old deeds new.sites)
-
-abbrev pub PartsGoOn : Type 0
-PartsGoOn =
-    (old mid new : List Standing) (sent : List Frame) (first more : List Deed)
-    → AreActs old first mid → CameAfter sent first → AreActs mid more new → CameAfter (sent ++ given_by first) more
-    → AreActs old (first ++ more) new × CameAfter sent (first ++ more)
 
 pub get_set : {X : Type 0} (xs : List X) (i : ℕ) (x y : X) → slice_get xs i ≡ Some x → slice_get (slice_set xs i y) i ≡ Some y
 get_set [] i x y e = let n : None ≡ Some x = e in cc
