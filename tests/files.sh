@@ -215,6 +215,13 @@ faults BadSites damaged/sites audit damaged
 damaged
 wants 0 "$(printf '%s ended\n' 'dairy#1' 'plant#1')" '' run damaged
 wants 0 "$(printf '%s\n' 'equal dairy#1 pairs 8' 'equal plant#1 pairs 7')" '' audit damaged
+if command -v sqlite3 >/dev/null; then
+    # the mark of an end is taken away, so that no message of the recall is left anywhere
+    cp -r damaged stuck
+    changes stuck/dairy.db 'update recall set ended = 0 where number = 1' || failed=1
+    wants 0 "$(printf '%s\n' 'open dairy#1' 'equal plant#1 pairs 7')" 'stuck dairy#1 at dairy' audit stuck
+    wants 0 "$(printf '%s\n' 'dairy#1 open' 'plant#1 ended')" 'a further `recall run` goes on with the recalls that are open' run stuck
+fi
 cp chain/shop-1.db chain/shop-1.db-wal damaged
 wants 4 'misfit 2 shop-1' '' audit damaged
 wants 4 'misfit 2 shop-1' '' run damaged

@@ -2,6 +2,7 @@
 use Rattle.std.proofs.Common.{◌≡◌, ℕ, List, Bool, true, false, Option, Bor, sym, subst}
 use Rattle.event_json.specs.Sites.{Site}
 use Rattle.item_spellings.specs.declared.spellings.Spelled.{Spelled}
+use Rattle.recall_outcomes.specs.declared.notes.Notes.{Notes}
 use Rattle.recall_outcomes.specs.declared.notes.Notes.TheVariants.{Nothing}
 use Rattle.recall_outcomes.specs.declared.outcomes.Outcome.{Outcome}
 use Rattle.recall_outcomes.specs.declared.outcomes.Output.{Output}
@@ -23,6 +24,16 @@ module _ {F K : Type 0} (does : F → FileCall K → F → Type 0) where
       subst (λ (s : List Site). Tells s output.outcome led.calls) (sym sites) (subst (λ (o : Outcome). Tells told.0 o led.calls) (sym outcome) led.are),
       silent,
     );
+    led = led.led;
+  }
+
+  -- an answer with what is noted beside it
+  pub noted_led : (Tells : List Site → Outcome × Notes → List (FileCall K) → Type 0) (old new : F) (told : List Site × (Outcome × Notes)) (output : Output) → output.sites ≡ told.0 → output.outcome ≡ told.1.0 → output.notes ≡ told.1.1
+      → Led does old new (Tells told.0 told.1) → Led does old new (Tells output.sites (output.outcome, output.notes))
+  noted_led Tells old new told output sites outcome notes led = record {
+    calls = led.calls;
+    are = subst (λ (s : List Site). Tells s (output.outcome, output.notes) led.calls) (sym sites)
+        (subst (λ (o : Outcome). Tells told.0 (o, output.notes) led.calls) (sym outcome) (subst (λ (n : Notes). Tells told.0 (told.1.0, n) led.calls) (sym notes) led.are));
     led = led.led;
   }
 

@@ -6,6 +6,7 @@ use Rattle.frame_core.specs.Numbers.{Recall}
 use Rattle.item_spellings.specs.declared.spellings.Spelled.{Spelled}
 use Rattle.keeper_core.specs.declared.faults.Unopened.{Unopened}
 use Rattle.recall_outcomes.specs.declared.faults.Fault.{Fault}
+use Rattle.recall_outcomes.specs.declared.notes.Notes.{Notes}
 use Rattle.recall_outcomes.specs.declared.notes.Notes.TheVariants.{Nothing}
 use Rattle.recall_outcomes.specs.declared.outcomes.Outcome.{Outcome}
 use Rattle.recall_outcomes.specs.declared.outcomes.Output.{Output}
@@ -37,9 +38,11 @@ Plainly Tells output calls = Tells output.sites output.outcome calls × (output.
 -- ---- the questions
 
 module _ {K : Type 0} (shown : K → Option Record) (stored : K → Type 0) (folder : List ℕ) where
-  -- whether the records are consistent, and how each recall's quarantine compares with what its root reaches
+  -- whether the records are consistent, how each recall's quarantine compares with what its root reaches, and what is stuck
   abbrev pub Audits : Output → List (FileCall K) → Type 0
-  Audits = Plainly (AsksAll {Q = ⊤} shown stored folder (λ sites outcome. ⊥) (λ sites asked. ⊤) (λ asked rs outcome. AnswersAudit rs outcome))
+  Audits output =
+      AsksAll {Q = ⊤} {A = Outcome × Notes} shown stored folder (λ sites told. ⊥) (λ sites asked. ⊤) (λ asked rs told. AnswersAudit rs told.0 told.1)
+      output.sites (output.outcome, output.notes)
 
   -- how all recalls stand
   abbrev pub AllStand : Bool → Output → List (FileCall K) → Type 0

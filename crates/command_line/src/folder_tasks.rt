@@ -77,7 +77,7 @@ pub(crate) fn do_command<
             };
             Ok(plain(ask(alloc, files, folder, &question)?))
         }
-        FileCommand::Audit { folder } => Ok(plain(ask(alloc, files, folder, &Audit {})?)),
+        FileCommand::Audit { folder } => Ok(with_notes(ask(alloc, files, folder, &Audit {})?)),
         FileCommand::Trace {
             folder,
             site,
@@ -115,6 +115,20 @@ pub(crate) fn do_command<
         FileCommand::Items { folder, site, text } => {
             Ok(plain(ask_site(alloc, files, folder, &ItemsOf { site, text })?))
         }
+    }
+}
+
+/// An outcome with what is told beside it.
+fn with_notes(told: (Sites, (Outcome, Notes))) -> Output
+    ensures sites { result.sites ≡ told.0 }
+    ensures outcome { result.outcome ≡ told.1.0 }
+    ensures notes { result.notes ≡ told.1.1 }
+{
+    let (sites, (outcome, notes)) = told;
+    Output {
+        sites,
+        outcome,
+        notes,
     }
 }
 

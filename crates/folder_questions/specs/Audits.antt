@@ -1,7 +1,10 @@
 -- What an audit of all sites comes to.
-use Rattle.std.specs.Prelude.{◌≡◌, Bool, true, false, List, [], length, Option, Some, None}
+use Rattle.std.specs.Prelude.{◌≡◌, ◌≢◌, Bool, true, false, List, [], length, flat_map, Option, Some, None}
 use Rattle.std.specs.List.{AllZip}
 use Rattle.frame_core.specs.Numbers.{Recall}
+use Rattle.query_core.specs.Stuck.{stuck_from}
+use Rattle.recall_outcomes.specs.declared.notes.Notes.{Notes}
+use Rattle.recall_outcomes.specs.declared.notes.Notes.TheVariants.{Nothing, Stuck}
 use Rattle.recall_outcomes.specs.declared.outcomes.AuditedRecall.{AuditedRecall}
 use Rattle.recall_outcomes.specs.declared.outcomes.Outcome.{Outcome}
 use Rattle.recall_outcomes.specs.declared.outcomes.Outcome.TheVariants.{Audited, Inconsistent}
@@ -24,9 +27,16 @@ HasVerdict records r true None = ⊥
 abbrev pub AuditsRecall : List Record → StartedRecall → AuditedRecall → Type 0
 AuditsRecall records begun audited = (audited.recall ≡ begun.recall) × HasVerdict records begun.recall begun.ended audited.verdict
 
--- The records are consistent, and each recall that a site began was audited, one for one and in order; or the records aren't
--- consistent, and that is the outcome.
-abbrev pub AnswersAudit : List Record → Outcome → Type 0
-AnswersAudit records (Audited recalls) = Fits (world_of records) [] × AllZip (AuditsRecall records) (begun records) recalls.items
-AnswersAudit records (Inconsistent misfit) = IsMisfit (length records) (world_of records) misfit.condition misfit.site
-AnswersAudit records other = ⊥
+-- the sites that are stuck in recalls are noted, site by site, and where there is none, nothing
+abbrev pub NotesStuck : List Record → Notes → Type 0
+NotesStuck records Nothing = flat_map stuck_from records ≡ []
+NotesStuck records (Stuck found) = (found.items ≡ flat_map stuck_from records) × (found.items ≢ [])
+NotesStuck records other = ⊥
+
+-- The records are consistent, and each recall that a site began was audited, one for one and in order, with a note of what is
+-- stuck; or the records aren't consistent, and that is the outcome.
+abbrev pub AnswersAudit : List Record → Outcome → Notes → Type 0
+AnswersAudit records (Audited recalls) notes =
+    Fits (world_of records) [] × AllZip (AuditsRecall records) (begun records) recalls.items × NotesStuck records notes
+AnswersAudit records (Inconsistent misfit) notes = IsMisfit (length records) (world_of records) misfit.condition misfit.site × (notes ≡ Nothing)
+AnswersAudit records other notes = ⊥

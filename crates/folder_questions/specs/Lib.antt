@@ -2,6 +2,7 @@ pub mod Asked
 pub mod Audits
 pub mod DryStarts
 pub mod Knowers
+pub mod Laws
 pub mod Reports
 pub mod SiteItems
 pub mod Standings

@@ -1,21 +1,24 @@
-//! `audit`: whether the records of the sites are consistent, and whether each ended recall quarantined what it is to.
+//! `audit`: whether the records of the sites are consistent, whether each ended recall quarantined what it is to, and
+//! which sites the others wait at in vain.
 
 ghost use Rattle.std.specs.Prelude.{IfOk};
 ghost use Rattle.std.specs.List.{AllZip};
 ghost use Rattle.site_recovery.specs.Checking.{records_at};
 ghost use Rattle.site_recovery.specs.FittingAt.{AreAllSites};
 ghost use Rattle.site_folders.specs.Begun.{begun};
-ghost use Rattle.folder_questions.specs.Audits.{AuditsRecall};
+ghost use Rattle.folder_questions.specs.Audits.{AuditsRecall, NotesStuck};
 
 use event_json::Sites;
-use recall_outcomes::{AuditedRecall, Outcome, StartedRecall};
+use query_core::stuck_recalls;
+use recall_outcomes::{AuditedRecall, Notes, Outcome, StartedRecall};
 use report_core::{ReportFault, audit};
 use site_core::SiteState;
 use site_folders::{Question, begun};
 use site_recovery::{CheckFault, check_world};
 use std::alloc::{AllocError, Global};
 
-/// Whether the records are consistent, and how the quarantine of each recall that ended compares with what it is to be.
+/// Whether the records are consistent, and how the quarantine of each recall that ended compares with what it is to be;
+/// and beside that, at which sites a recall waits in vain.
 #[derive(Drop)]
 pub struct Audit {}
 
@@ -25,15 +28,19 @@ impl Question for Audit {
 
     type Asked = ();
 
-    type Answer = Outcome;
+    type Answer = (Outcome, Notes);
 
-    ghost refuses = { λ q sites outcome. ⊥ };
+    ghost refuses = { λ q sites told. ⊥ };
 
     ghost asks = { λ q sites asked. ⊤ };
 
-    ghost answers = { λ q asked rs outcome. AnswersAudit rs outcome };
+    ghost answers = { λ q asked rs told. AnswersAudit rs told.0 told.1 };
 
-    fn read(&self, _alloc: Global, _sites: &Sites) -> Result<Result<(), Outcome>, AllocError> {
+    fn read(
+        &self,
+        _alloc: Global,
+        _sites: &Sites,
+    ) -> Result<Result<(), (Outcome, Notes)>, AllocError> {
         Ok(Ok(()))
     }
 
@@ -42,13 +49,29 @@ impl Question for Audit {
         alloc: Global,
         _asked: (),
         records: &[&SiteState],
-    ) -> Result<Outcome, AllocError> {
+    ) -> Result<(Outcome, Notes), AllocError> {
         match check_world(alloc, records) {
-            Ok(()) => Ok(Outcome::Audited(audit_recalls(alloc, records)?)),
-            Err(CheckFault::Misfit(misfit)) => Ok(Outcome::Inconsistent(misfit)),
+            Ok(()) => {
+                let audited = audit_recalls(alloc, records)?;
+                Ok((Outcome::Audited(audited), stuck_notes(alloc, records)?))
+            }
+            Err(CheckFault::Misfit(misfit)) => {
+                Ok((Outcome::Inconsistent(misfit), Notes::Nothing))
+            }
             Err(CheckFault::NoMemory) => Err(AllocError),
         }
     }
+}
+
+/// The sites that recalls wait at in vain, where there are any.
+fn stuck_notes(alloc: Global, records: &[&SiteState]) -> Result<Notes, AllocError>
+    ensures { IfOk result (NotesStuck (records_at records.now)) }
+{
+    let stuck = stuck_recalls(alloc, records)?;
+    if stuck.is_empty() {
+        return Ok(Notes::Nothing);
+    }
+    Ok(Notes::Stuck(stuck))
 }
 
 /// Audits each recall that a site began, by site, then by number.

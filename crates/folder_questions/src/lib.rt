@@ -6,6 +6,7 @@ mod asked;
 mod audits;
 mod dry_starts;
 mod knowers;
+pub mod laws;
 mod reports;
 mod site_items;
 mod standings;

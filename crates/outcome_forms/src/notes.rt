@@ -2,10 +2,15 @@
 
 use event_json::{MAX_ADDRESSES, SiteNo, Sites, Untraced};
 use item_spellings::are_one_place;
+use query_core::StuckRecall;
 use recall_outcomes::{Knower, Knowers, Notes, Outcome, RunNotes, Stop, StopCause};
-use recall_text::telling::name_of;
+use recall_text::telling::{name_of, recall_text};
 use report_core::OutsideShipment;
 use std::alloc::{AllocError, Global};
+
+/// What it means where a recall waits at a site in vain.
+const STUCK: &str =
+    "note: each of these sites takes part in the recall and has no message of it left, so `recall run` can't end it; no run leads there: put all sites' files back as one backup has them, or begin a recall of the item anew\n";
 
 /// The notes beside an outcome.
 pub(crate) fn notes_text(
@@ -18,6 +23,7 @@ pub(crate) fn notes_text(
         Notes::Untraced(untraced) => untraced_text(alloc, untraced),
         Notes::Run(run) => run_text(alloc, sites, run),
         Notes::Knowers(knowers) => knowers_text(alloc, sites, knowers),
+        Notes::Stuck(stuck) => stuck_text(alloc, sites, stuck.as_slice()),
     }
 }
 
@@ -111,6 +117,18 @@ fn knowers_text(alloc: Global, sites: &Sites, knowers: &Knowers) -> Result<Strin
         };
         text.push_str(line.as_str())?;
     }
+    Ok(text)
+}
+
+/// The sites that recalls wait at in vain, and what can be done.
+fn stuck_text(alloc: Global, sites: &Sites, stuck: &[StuckRecall]) -> Result<String, AllocError> {
+    let mut text = String::new(alloc);
+    for it in stuck {
+        let recall = recall_text(alloc, sites, it.recall)?;
+        let name = name_of(sites, it.site);
+        text.push_str(format!(in alloc; "stuck {recall} at {name}\n")?.as_str())?;
+    }
+    text.push_str(STUCK)?;
     Ok(text)
 }
 

@@ -7,4 +7,5 @@ pub mod Naming
 pub mod OneAnswer
 pub mod RecordSums
 pub mod SiteLists
+pub mod StuckSites
 pub mod Told

@@ -46,7 +46,7 @@ waiting_total = on_total (λ (x : WaitingMessage). x.message) message_total
 nat_less : (a b : ℕ) → a < b → nat_cmp a b ≡ Less
 nat_less a b below = grind (below, arith)
 
-of_map : {X Y : Type 0} (f : X → Y) (xs : List X) (y : Y) → Contains (map f xs) y → (x : X) × Contains xs x × (f x ≡ y)
+pub of_map : {X Y : Type 0} (f : X → Y) (xs : List X) (y : Y) → Contains (map f xs) y → (x : X) × Contains xs x × (f x ≡ y)
 of_map f [] y at = absurd (contains_none y at)
 of_map f (x ∷ xs) y at = elim (contains_cases (f x) y (map f xs) at) [
   | inl here ↦ (x, contains_here x xs, here)

@@ -4,3 +4,4 @@ pub mod Laws
 pub mod Lists
 pub mod Mentions
 pub mod Recalls
+pub mod Stuck

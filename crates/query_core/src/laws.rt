@@ -11,6 +11,7 @@ ghost use Rattle.query_core.specs.Laws.{
   ToldItemsAreHeld,
   WholeKeysAreTold,
 };
+ghost use Rattle.query_core.specs.Stuck.{StuckAreTold};
 
 /// Where the sites are consistent, a recall that has ended waits for nothing, and no site is engaged for it.
 pub fn an_ended_recall_waits_for_nothing()
@@ -55,4 +56,9 @@ pub fn a_whole_key_is_told()
 /// What is told of where a longer text is asked for is told of where a part of it is.
 pub fn a_shorter_text_tells_more()
     ensures { ShorterTextsTellMore }
+{}
+
+/// A site is told to be stuck in a recall exactly where it takes part in it and has no message of it that waits.
+pub fn stuck_sites_are_told()
+    ensures { StuckAreTold }
 {}

@@ -1,5 +1,5 @@
 //! What the records of the sites tell somebody who asks: which items a site knows, how each recall stands, and which
-//! messages of it wait, and for whom. Nothing is begun or changed.
+//! messages of it wait, for whom, and which sites wait in vain. Nothing is begun or changed.
 #![tactic(auto)]
 
 mod known_items;
@@ -8,6 +8,7 @@ mod mentions;
 mod recalls;
 mod standings;
 mod statuses;
+mod stuck;
 mod sums;
 mod waiting;
 
@@ -16,3 +17,4 @@ pub use recalls::{
     QueryFault, RecallDetail, RecallStatus, SiteStanding, WaitingMessage, recall_detail,
     recall_statuses,
 };
+pub use stuck::{StuckRecall, stuck_recalls};

@@ -59,7 +59,7 @@ pub(crate) fn waiting_counts(
 }
 
 /// Counts the rows of an outbox for their recalls.
-fn count_rows(
+pub(crate) fn count_rows(
     counts: &mut BTreeMap<RecallId, u64>,
     rows: &BTreeMap<u64, Row>,
 ) -> Result<(), AllocError>

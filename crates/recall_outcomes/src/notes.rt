@@ -2,6 +2,7 @@
 
 use epc_core::Epc;
 use event_json::{SiteNo, Untraced};
+use query_core::StuckRecall;
 
 /// What is told beside an outcome.
 #[derive(Debug, Drop)]
@@ -14,6 +15,8 @@ pub enum Notes {
     Run(RunNotes),
     /// Who knows an item that the site that was asked doesn't know.
     Knowers(Knowers),
+    /// The sites that recalls wait at in vain, by their numbers: one at least.
+    Stuck(Vec<StuckRecall>),
 }
 
 /// Why a site stopped.

@@ -2,11 +2,14 @@ use Rattle.std.proofs.Common.{◌≡◌, ℕ, List, true, false, None, Some}
 use Rattle.std.specs.Prelude.{⊤}
 use Rattle.event_json.specs.Sites.{named}
 use Rattle.frame_core.specs.Numbers.{Recall}
+use Rattle.recall_outcomes.specs.declared.notes.Notes.{Notes}
+use Rattle.recall_outcomes.specs.declared.outcomes.Outcome.{Outcome}
 use Rattle.site_core.specs.declared.inputs.SiteInput.TheVariants as inputs
 use Rattle.site_folders.specs.FileCalls.{Led}
 use Rattle.site_folders.specs.Questions.{AsksAll, AsksSite}
 use Rattle.site_folders.specs.Refusals.{IsNoSite}
 use Rattle.folder_questions.specs.Asked.{AsksItem, AsksRecall, RefusesItem, RefusesRecall}
+use Rattle.folder_questions.specs.Audits.{AnswersAudit}
 use Rattle.folder_questions.specs.DryStarts.{AnswersDryStart}
 use Rattle.folder_questions.specs.Reports.{AnswersReport}
 use Rattle.folder_questions.specs.SiteItems.{AnswersItems}
@@ -14,7 +17,7 @@ use Rattle.folder_questions.specs.Standings.{AnswersRecall}
 use Rattle.folder_questions.specs.Traces.{AnswersTrace}
 use Rattle.command_line.specs.Leads.{Traces}
 use Rattle.command_line.proofs.Behind.{and_who}
-use Rattle.command_line.proofs.Starts.{Firsts, first_led, plainly_led, start_led}
+use Rattle.command_line.proofs.Starts.{Firsts, first_led, noted_led, plainly_led, start_led}
 use Rattle.command_line.proofs.folder_tasks.do_command.Goals.{then-dry+in_ok-ask_site-in-Start, else-dry+in_ok-first-in-Start}
 use Rattle.command_line.proofs.folder_tasks.do_command.Goals as goal
 
@@ -61,6 +64,13 @@ returns-in_ok-ask-in-Report-clause-led g c =
     (AsksAll {Q = Recall} g.K.SiteKeeper.shown g.K.SiteKeeper.stored c.in-Report.folder.now (λ sites outcome. RefusesRecall recall sites outcome) (λ sites r. AsksRecall recall sites r)
     (λ r rs outcome. AnswersReport rs r c.in-Report.ways c.in-Report.events outcome))
     c.args.files.now c.ask.new.files c.in_ok-ask-in-Report.field-0 c.plain.result c.plain.ensures.sites c.plain.ensures.outcome c.plain.ensures.silent c.in_ok-ask-in-Report.ensures.answered)
+
+pub returns-in_ok-ask-in-Audit-clause-led : goal.returns-in_ok-ask-in-Audit-clause-led
+returns-in_ok-ask-in-Audit-clause-led g c =
+    rw c.in-Audit.is
+    (noted_led g.F.Files.does
+    (AsksAll {Q = ⊤} {A = Outcome × Notes} g.K.SiteKeeper.shown g.K.SiteKeeper.stored c.in-Audit.folder.now (λ sites told. ⊥) (λ sites asked. ⊤) (λ asked rs told. AnswersAudit rs told.0 told.1))
+    c.args.files.now c.ask-in-Audit.new.files c.in_ok-ask-in-Audit.field-0 c.with_notes.result c.with_notes.ensures.sites c.with_notes.ensures.outcome c.with_notes.ensures.notes c.in_ok-ask-in-Audit.ensures.answered)
 
 pub returns-in_ok-ask-in-Trace-clause-led : goal.returns-in_ok-ask-in-Trace-clause-led
 returns-in_ok-ask-in-Trace-clause-led g c =

@@ -1,4 +1,4 @@
-use Rattle.std.proofs.Common.{sym, subst}
+use Rattle.std.proofs.Common.{refl, sym, subst}
 use Rattle.std.proofs.lemmas.List.{length-map}
 use Rattle.site_recovery.specs.Checking.{world_at}
 use Rattle.site_recovery.specs.Misfits.{IsMisfit}
@@ -11,5 +11,5 @@ returns-in-Err-Misfit c =
     record {
       answered =
           rw c.in-Err-Misfit.field-0-is
-          (subst (λ n. IsMisfit n (world_at refs) misfit.condition misfit.site) (sym (length-map refs (λ r. r.now))) (rw c.in-Err-Misfit.field-0-is at c.in-Err-Misfit.ensures.fault));
+          (subst (λ n. IsMisfit n (world_at refs) misfit.condition misfit.site) (sym (length-map refs (λ r. r.now))) (rw c.in-Err-Misfit.field-0-is at c.in-Err-Misfit.ensures.fault), refl);
     }
