@@ -3,6 +3,7 @@
 ghost use Rattle.std.specs.Prelude.{IfOk};
 ghost use Rattle.site_store.specs.Leavings.{KeepsOwn};
 ghost use Rattle.site_store.specs.Opened.{IsFound};
+ghost use Rattle.site_store.specs.Sites.{IsKeptBy};
 ghost use Rattle.recall_cli.specs.HostCalls.{WasOpened};
 
 use crate::causes::{Trouble, failure_of};
@@ -204,14 +205,13 @@ impl<'a> HostFiles<'a> {
     }
 
     /// Makes the file of a site.
-    fn make(&self, alloc: Global, path: &str, state: SiteState) -> Result<(), Trouble> {
+    fn make(&self, alloc: Global, path: &str, state: SiteState) -> Result<FileSite, Trouble>
+        ensures { IfOk result (λ site. IsKeptBy site state) }
+    {
         let options = self.options()?;
         let conn = self.connect(path)?;
         match StoredSite::create(alloc, conn, options, state) {
-            Ok(site) => {
-                close(site);
-                Ok(())
-            }
+            Ok(site) => Ok(site),
             Err(left) => Err(unmade(alloc, left.fault, close_connection(left.conn))),
         }
     }
@@ -295,7 +295,10 @@ impl Files<FileSite> for HostFiles<'_> {
 
     fn create_site(&mut self, alloc: Global, path: &str, state: SiteState) -> Result<(), Fault> {
         match self.make(alloc, path, state) {
-            Ok(()) => Ok(()),
+            Ok(site) => {
+                close(site);
+                Ok(())
+            }
             Err(trouble) => Err(self.note(path, trouble)),
         }
     }

@@ -1,10 +1,12 @@
 //! What is told of the databases in which the machine keeps sites, where they fail.
 
+ghost use Rattle.recall_cli.specs.HostCalls.{WasClosed};
+
 use crate::causes::{Trouble, cause_of_database, name_of};
 use crate::{looks, schemas};
 use keeper_core::KeepFault;
 use recall_outcomes::{Cause, Fault};
-use site_store::{Link, OpenFault, StoredSite, Unfound};
+use site_store::{OpenFault, StoredSite, Unfound};
 use sqlite::{Connection, Error, ErrorCode, FileFrom, FileStore, Files, Wary};
 use sqlite_disk::Tally;
 use std::alloc::Global;
@@ -21,10 +23,12 @@ pub(crate) type FileSite = StoredSite<KeptFile>;
 
 /// Closes the file of a site, and returns what its failed calls met. What was committed stands in the file or in its
 /// log, also where this fails.
-pub(crate) fn close(site: FileSite) -> Tally {
-    match site.release() {
-        Link::Connected(conn) => close_connection(conn),
-        Link::Unconnected(files) => close_files(files),
+pub(crate) fn close(site: FileSite) -> Tally
+    ensures { WasClosed site }
+{
+    match site.close() {
+        Ok(files) => close_files(files),
+        Err(files) => close_files(files),
     }
 }
 

@@ -1,5 +1,6 @@
 pub mod CallsLeave
 pub mod Caused
+pub mod Closings
 pub mod Crashes
 pub mod Findings
 pub mod Found

@@ -1,3 +1,4 @@
+pub mod Closed
 pub mod Crashes
 pub mod Faults
 pub mod Findable

@@ -1,8 +1,11 @@
-//! A connection made again.
+//! A connection closed, and made again.
 ghost use Rattle.std.specs.Prelude.{◌≡◌, true, None, IfOk, IfErr, IsTrue};
+ghost use Rattle.sqlite.specs.Closing.{IsCopied};
 ghost use Rattle.sqlite.specs.Files.{file_state};
 ghost use Rattle.sqlite.specs.State.{HasCleanDisk};
+ghost use Rattle.sqlite_wal.specs.Reads.{AreClean};
 ghost use Rattle.site_store.specs.Faults.{is_of_device};
+ghost use Rattle.site_store.specs.Closed.{IsShut};
 ghost use Rattle.site_store.specs.Reopened.{AreBehind, AreLeftOf, FailsToConnect, IsMadeTo, IsOfDevice, IsReopened};
 ghost use Rattle.site_store.specs.Sites.{StoresListed};
 
@@ -14,12 +17,27 @@ use std::alloc::Global;
 
 /// The files behind a link. A connection is closed, whether it is open still or a failure shut it. What is in the log
 /// stays there.
-fn files_behind<D: Disk + Drop>(link: Link<D>) -> Files<D>
+pub fn files_behind<D: Disk + Drop>(link: Link<D>) -> Files<D>
     ensures { AreBehind link result }
 {
     match link {
         Link::Connected(conn) => conn.into_store().close(),
         Link::Unconnected(files) => files,
+    }
+}
+
+/// Closes a connection: what isn't committed is rolled back, and the log is copied into the database file.
+///
+/// # Errors
+/// The files, where the log couldn't be copied, whole or in part: the database says that a crash leaves nothing new.
+pub fn close_copied<D: Disk + Drop>(conn: Connection<FileStore<D>>) -> Result<Files<D>, Files<D>>
+    ensures copied { IfOk result (λ files. AreClean D.Disk files.log files.db
+        → IsCopied conn files) }
+    ensures shut { IfErr result (IsShut conn) }
+{
+    match conn.close_files() {
+        Ok(files) => Ok(files),
+        Err((_, store)) => Err(store.close()),
     }
 }
 

@@ -6,6 +6,7 @@ ghost use Rattle.site_core.specs.Records.{Record};
 ghost use Rattle.site_core.specs.Steps.{CopiesRecord};
 ghost use Rattle.keeper_core.specs.Keeping.{Applies, Stops, StaysClosed, HindersOpening, Rises};
 ghost use Rattle.site_store.specs.Sites.{shown_by, MayBy, StoreFailed, may_be_opened_by, failed_by, statements_by, link_of, IsKeptOver, IsKeptBy, StoresListed, OpensIn, StaysShut, NoneListed, AppliesBy, StopsBy, ReopensBy};
+ghost use Rattle.site_store.specs.Closed.{ClosesAs};
 ghost use Rattle.site_store.specs.Leavings.{StillLeaves, KeepsOwn};
 ghost use Rattle.site_store.specs.Opened.{MayBeFound};
 ghost use Rattle.site_store.specs.Reopened.{FailsOver, IsOfDevice, IsOnlyRead, IsReopened};
@@ -15,7 +16,7 @@ ghost use Rattle.site_tables.specs.Tables.{no_schema};
 
 use crate::beginning::begin_tables;
 use crate::kept::Kept;
-use crate::linking::connect;
+use crate::linking::{close_copied, connect, files_behind};
 use keeper_core::{Keep, KeepFault, SiteKeeper, Unopened};
 use site_core::{Effects, SiteInput, SiteState};
 use site_tables::settled;
@@ -123,6 +124,33 @@ impl<D: Disk + Drop> StoredSite<D> {
             options: _,
         } = self;
         link
+    }
+
+    /// Closes the site. Of one that is open what isn't committed is rolled back, and the log is copied into the database
+    /// file; the log of one that a failure closed stays as it is. Where the disk is honest, a crash leaves of the files the
+    /// record that the site showed, or one of those in which it might have been opened.
+    ///
+    /// # Errors
+    /// The files, where the log couldn't be copied: it is there, whole or copied in part, and the database says that a crash
+    /// leaves nothing new.
+    pub fn close(self) -> Result<Files<D>, Files<D>>
+        ensures { ClosesAs self result }
+    {
+        let StoredSite {
+            kept,
+            link,
+            options: _,
+        } = self;
+        match link {
+            Link::Connected(conn) => {
+                if kept.is_open {
+                    close_copied(conn)
+                } else {
+                    Ok(files_behind(Link::Connected(conn)))
+                }
+            }
+            Link::Unconnected(files) => Ok(files),
+        }
     }
 
     /// How many rows the last step wrote that had effects, and the two statements that begin and commit. 0 for a step
