@@ -1,5 +1,5 @@
 //! Recalls of four sites, each in a thread of its own.
-mod fixtures;
+pub mod fixtures;
 mod gates;
 
 ghost use Rattle.std.specs.Prelude.{◌≤◌, All, List, IfOk};

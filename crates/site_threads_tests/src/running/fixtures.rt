@@ -90,7 +90,7 @@ fn desk_of(rt: &impl Wait, alloc: Global, place: usize) -> Option<(Desk, DeskOut
 }
 
 /// Adds an item for which there is room.
-fn add<T: Drop>(items: &mut Vec<T>, item: T)
+pub fn add<T: Drop>(items: &mut Vec<T>, item: T)
     requires { vec_len items.old < vec_capacity items.old }
     ensures items { items.new.items ≡ items.old.items ++ item ∷ [] }
     ensures room { vec_capacity items.old ≤ vec_capacity items.new }
