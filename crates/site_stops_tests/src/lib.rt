@@ -19,4 +19,6 @@ mod stops;
 #[cfg(test)]
 mod turns;
 #[cfg(test)]
+mod weak;
+#[cfg(test)]
 mod worlds;

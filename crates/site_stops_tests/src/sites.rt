@@ -1,7 +1,7 @@
 //! Two sites kept on disks that may fail: made, and opened by their names from what is left of their files.
-use crate::disks::{Blow, Fused, files, synced, written};
+use crate::disks::{Blow, Frail, files, synced, written};
 use event_json::Sites;
-use keeper_core::KeepFault;
+use keeper_core::{KeepFault, SiteKeeper};
 use site_core::SiteState;
 use site_store::{Link, OpenFault, StoredSite, Unfound, Unmade, open_site};
 use sqlite::{Connection, FileStore, Files, Options};
@@ -10,7 +10,7 @@ use std::hash::RandomState;
 use world_core::World;
 
 /// A site on disks that may fail.
-pub type Site = StoredSite<Fused>;
+pub type Site = StoredSite<Frail>;
 
 /// How sites are kept, and what a stop leaves.
 #[derive(Drop)]
@@ -28,6 +28,10 @@ pub enum Ended {
     Unmade,
     /// A turn failed, and all was as it should be.
     Stopped,
+    /// A closing failed, and all was as it should be.
+    Unclosed,
+    /// A turn failed in a sync, and the files aren't used any more.
+    Spoilt,
     /// No turn failed.
     Whole,
     /// Something wasn't as it should be.
@@ -52,20 +56,12 @@ impl Both {
         let Both { world } = self;
         world.into_keepers()
     }
-
-    /// The files behind the sites.
-    pub fn into_files(self) -> Option<Left> {
-        let mut sites = self.into_sites();
-        let b = files_of(sites.pop()?);
-        let a = files_of(sites.pop()?);
-        Some(Left { a, b })
-    }
 }
 
 /// The files of A and B once a disk has failed.
 pub struct Left {
-    pub a: Files<Fused>,
-    pub b: Files<Fused>,
+    pub a: Files<Frail>,
+    pub b: Files<Frail>,
 }
 
 impl Drop for Left {
@@ -75,6 +71,23 @@ impl Drop for Left {
 }
 
 impl Left {
+    /// The files behind sites A and B.
+    pub fn of(sites: Vec<Site>) -> Option<Left> {
+        let mut sites = sites;
+        let b = files_of(sites.pop()?);
+        let a = files_of(sites.pop()?);
+        Some(Left { a, b })
+    }
+
+    /// Whether no sync of a site's files has failed.
+    pub fn may_be_used(&self, is_second: bool) -> bool {
+        if is_second {
+            self.b.may_be_used()
+        } else {
+            self.a.may_be_used()
+        }
+    }
+
     /// Both sites as the next process finds them where this one ended.
     pub fn written(&self, keeping: &Keeping) -> Option<Both> {
         let a = written(keeping.alloc, &self.a);
@@ -94,7 +107,7 @@ pub enum Opening {
     /// The site is open.
     Open(Site),
     /// A disk failed, and left these files.
-    Failed(Files<Fused>),
+    Failed(Files<Frail>),
     /// Something else was reported.
     Refused,
 }
@@ -119,12 +132,14 @@ impl Opening {
         }
     }
 
-    /// The files, where the disk failed.
-    pub fn failed(self) -> Result<Files<Fused>, Ended> {
+    /// The site that was opened, or the files where the disk failed.
+    pub fn split(self) -> Result<Site, Result<Files<Frail>, Ended>> {
         match self {
-            Opening::Open(_) => Err(Ended::Whole),
-            Opening::Failed(files) => Ok(files),
-            Opening::Refused => Err(Ended::Wrong("a site isn't opened, and no disk failed")),
+            Opening::Open(site) => Ok(site),
+            Opening::Failed(files) => Err(Ok(files)),
+            Opening::Refused => {
+                Err(Err(Ended::Wrong("a site isn't opened, and no disk failed")))
+            }
         }
     }
 }
@@ -149,8 +164,8 @@ fn options(keeping: &Keeping) -> Options {
 /// A connection to the files, or what is left of them where a disk failed.
 fn connected(
     keeping: &Keeping,
-    files: Files<Fused>,
-) -> Result<Connection<FileStore<Fused>>, Files<Fused>> {
+    files: Files<Frail>,
+) -> Result<Connection<FileStore<Frail>>, Files<Frail>> {
     if !files.may_be_used() {
         return Err(files);
     }
@@ -161,7 +176,7 @@ fn connected(
 }
 
 /// The files behind a connection over which no site was opened.
-fn shut(conn: Connection<FileStore<Fused>>, is_of_device: bool) -> Opening {
+fn shut(conn: Connection<FileStore<Frail>>, is_of_device: bool) -> Opening {
     let files = conn.into_store().close();
     if is_of_device {
         Opening::Failed(files)
@@ -171,7 +186,7 @@ fn shut(conn: Connection<FileStore<Fused>>, is_of_device: bool) -> Opening {
 }
 
 /// A site is kept in empty files from now on.
-fn created(keeping: &Keeping, files: Files<Fused>, state: SiteState) -> Opening {
+fn created(keeping: &Keeping, files: Files<Frail>, state: SiteState) -> Opening {
     match connected(keeping, files) {
         Ok(conn) => match StoredSite::create(keeping.alloc, conn, options(keeping), state) {
             Ok(site) => Opening::Open(site),
@@ -182,7 +197,7 @@ fn created(keeping: &Keeping, files: Files<Fused>, state: SiteState) -> Opening 
 }
 
 /// Opens the site of a name.
-pub fn opened(keeping: &Keeping, files: Files<Fused>, name: &str) -> Opening {
+pub fn opened(keeping: &Keeping, files: Files<Frail>, name: &str) -> Opening {
     match connected(keeping, files) {
         Ok(conn) => match open_site(keeping.alloc, keeping.keys, conn, options(keeping), name) {
             Ok(site) => Opening::Open(site),
@@ -222,16 +237,35 @@ pub fn made(keeping: &Keeping, blow: &Blow) -> Result<Both, Ended> {
     together(keeping, a, b)
 }
 
+/// Whether a failure of the device was counted, and at this site alone.
+pub fn are_counted(sites: &[Site], is_second: bool) -> bool {
+    match sites {
+        [a, b] => (a.failures() > 0) != is_second && (b.failures() > 0) == is_second,
+        _ => false,
+    }
+}
+
 /// The files of a site, with no call of a disk.
-pub fn files_of(site: Site) -> Files<Fused> {
+pub fn files_of(site: Site) -> Files<Frail> {
     match site.release() {
         Link::Connected(conn) => conn.into_store().close(),
         Link::Unconnected(files) => files,
     }
 }
 
+/// The files of a site that is closed as the program closes it, or what a disk that failed left of them.
+pub fn closed(site: Site) -> Result<Files<Frail>, Files<Frail>> {
+    match site.release() {
+        Link::Connected(conn) => match conn.close_files() {
+            Ok(files) => Ok(files),
+            Err((_, store)) => Err(store.close()),
+        },
+        Link::Unconnected(files) => Err(files),
+    }
+}
+
 /// Both sites opened by their names. None where one can't be opened, or they don't fit together.
-fn both_found(keeping: &Keeping, a: Files<Fused>, b: Files<Fused>) -> Option<Both> {
+fn both_found(keeping: &Keeping, a: Files<Frail>, b: Files<Frail>) -> Option<Both> {
     let a = opened(keeping, a, "A").site().ok()?;
     let b = opened(keeping, b, "B").site().ok()?;
     together(keeping, a, b).ok()

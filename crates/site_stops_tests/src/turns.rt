@@ -39,6 +39,8 @@ pub enum Turn {
     RestsA,
     /// B stops before it takes anything.
     RestsB,
+    /// A stops as it captures the document.
+    StopsA(Keep),
     /// B stops as it takes the frame that was sent first.
     StopsB(Keep),
     /// A is opened again.
@@ -92,6 +94,11 @@ pub fn event_of(alloc: Global, turn: Turn) -> Option<WorldEvent> {
         Turn::Returns(frame) => deliver(a, frame),
         Turn::RestsA => rest(alloc, a),
         Turn::RestsB => rest(alloc, b),
+        Turn::StopsA(keep) => WorldEvent::Stop {
+            site: a,
+            input: document(alloc)?,
+            keep,
+        },
         Turn::StopsB(keep) => WorldEvent::Stop {
             site: b,
             input: WorldInput::Deliver(1),
@@ -117,9 +124,22 @@ pub const WITH_OPENINGS: [Turn; 11] = [
     Turn::Returns(2),
 ];
 
+/// A recall in which each site stops in a step, whose record is to be kept, and is opened again.
+pub const WITH_STOPS: [Turn; 9] = [
+    Turn::StopsA(Keep::New),
+    Turn::OpensA,
+    Turn::Begins,
+    Turn::Sends,
+    Turn::StopsB(Keep::New),
+    Turn::OpensB,
+    Turn::Comes(1),
+    Turn::Signals,
+    Turn::Returns(2),
+];
+
 /// What became of an event.
 #[derive(Drop)]
-enum Outcome {
+pub enum Outcome {
     /// It was done.
     Done,
     /// The device failed.
@@ -137,29 +157,46 @@ fn given(world: &mut World<Site>, event: WorldEvent) -> Outcome {
     }
 }
 
-/// A turn is made. Where a disk fails, the site can't be opened again.
+/// A turn is made.
 pub fn happens(alloc: Global, world: &mut World<Site>, turn: Turn) -> Ended {
     let Some(event) = event_of(alloc, turn) else {
         return Ended::Wrong("out of memory");
     };
-    let site = event.site();
     match given(world, event) {
         Outcome::Done => Ended::Whole,
-        Outcome::Failed => match given(world, WorldEvent::Reopen { site }) {
-            Outcome::Failed => Ended::Stopped,
-            _ => Ended::Wrong("a site was opened on a disk that fails"),
-        },
+        Outcome::Failed => Ended::Stopped,
         Outcome::Other => Ended::Wrong("another answer than a failure of the device"),
     }
 }
 
-/// The capture and the start happen again that had no answer, where so many turns were done.
-fn repeat(alloc: Global, world: &mut World<Site>, done: usize) {
-    if done == 0 {
-        let _ = happens(alloc, world, Turn::Captures);
+/// Makes the turns until one fails, and returns how many were done.
+pub fn turns_done(alloc: Global, world: &mut World<Site>, turns: &[Turn]) -> Result<usize, Ended> {
+    for (place, turn) in turns.iter().enumerate() {
+        match happens(alloc, world, *turn) {
+            Ended::Whole => {}
+            Ended::Stopped => return Ok(place),
+            ended => return Err(ended),
+        }
     }
-    if done <= 3 {
-        let _ = happens(alloc, world, Turn::Begins);
+    Ok(turns.len())
+}
+
+/// The site whose disks these are is opened again.
+pub fn reopens(world: &mut World<Site>, is_second: bool) -> Outcome {
+    let number = if is_second { 1 } else { 0 };
+    given(world, WorldEvent::Reopen { site: site(number) })
+}
+
+/// The capture and the start happen again that had no answer, where so many turns were done. Where the last one of them was
+/// a stop, nothing was said of its step.
+fn repeat(alloc: Global, world: &mut World<Site>, turns: &[Turn], done: usize) {
+    for (place, turn) in turns.iter().enumerate() {
+        if place.saturating_add(1) >= done && matches!(turn, Turn::Captures | Turn::StopsA(_)) {
+            let _ = happens(alloc, world, Turn::Captures);
+        }
+        if place >= done && matches!(turn, Turn::Begins) {
+            let _ = happens(alloc, world, Turn::Begins);
+        }
     }
 }
 
@@ -173,8 +210,8 @@ fn all_pass(world: &mut World<Site>, from: SiteNo, to: SiteNo) {
 }
 
 /// Three rounds of all frames, after the capture and the start that had no answer.
-pub fn rounds(alloc: Global, world: &mut World<Site>, done: usize) {
-    repeat(alloc, world, done);
+pub fn rounds(alloc: Global, world: &mut World<Site>, turns: &[Turn], done: usize) {
+    repeat(alloc, world, turns, done);
     for _ in 0..3 {
         all_pass(world, site(0), site(1));
         all_pass(world, site(1), site(0));

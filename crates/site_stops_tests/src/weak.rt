@@ -1,0 +1,134 @@
+//! A disk that fails for a while.
+ghost use Rattle.std.specs.Prelude.{◌≡◌, ◌+◌, ◌&&◌, not, false};
+ghost use Rattle.sqlite_disk.specs.Disk.{CountsFault};
+ghost use Rattle.sqlite_disk.specs.Refusal.{finds_no_room};
+
+use sqlite_disk::{Crash, Disk, Tally};
+use std::io;
+
+/// A disk that passes so many calls, fails so many, which change nothing, and passes all behind them. After a sync that
+/// failed it isn't to be used; a crash ends that, and the failures.
+#[derive(Drop)]
+pub struct Weak<D: Disk> {
+    inner: D,
+    passes: u64,
+    fails: u64,
+    refused: u64,
+    sync_refused: bool,
+}
+
+impl<D: Disk> Weak<D> {
+    pub fn new(inner: D, passes: u64, fails: u64) -> Weak<D> {
+        Weak {
+            inner,
+            passes,
+            fails,
+            refused: 0,
+            sync_refused: false,
+        }
+    }
+
+    pub fn inner(&self) -> &D {
+        &self.inner
+    }
+}
+
+/// Passes a call, or fails it.
+fn spend(passes: &mut u64, fails: &mut u64, refused: &mut u64) -> io::Result<()>
+    ensures faults { CountsFault result refused.old refused.new }
+    ensures kind { finds_no_room result ≡ false }
+{
+    if *passes > 0 {
+        *passes -= 1;
+        return Ok(());
+    }
+    if *fails == 0 {
+        return Ok(());
+    }
+    *fails -= 1;
+    *refused = refused.saturating_add(1);
+    Err(io::Error::other("the disk fails"))
+}
+
+impl<D: Disk> Disk for Weak<D> {
+    ghost seen = { λ f. D.Disk.seen f.inner };
+
+    ghost may_leave = { λ f. D.Disk.may_leave f.inner };
+
+    ghost is_usable = { λ f. D.Disk.is_usable f.inner && not f.sync_refused };
+
+    ghost faults = { λ f. D.Disk.faults f.inner + f.refused };
+
+    ghost tally_of = { λ f. D.Disk.tally_of f.inner };
+
+    ghost key_of = { λ f. D.Disk.key_of f.inner };
+
+    ghost is_clean = { λ f. D.Disk.is_clean f.inner };
+
+    ghost is_fair = { λ f. D.Disk.is_fair f.inner };
+
+    ghost fair_if_clean = { λ f. D.Disk.fair_if_clean f.inner };
+
+    ghost is_mixing = { λ f. D.Disk.is_mixing f.inner };
+
+    ghost is_rotten = { λ f. D.Disk.is_rotten f.inner };
+
+    ghost seen_may_stay = { λ f. D.Disk.seen_may_stay f.inner };
+
+    fn mixes(&self) -> bool {
+        self.inner.mixes()
+    }
+
+    fn key(&self) -> u64 {
+        self.inner.key()
+    }
+
+    fn tally(&self) -> Tally {
+        self.inner.tally()
+    }
+
+    fn may_be_used(&self) -> bool {
+        self.inner.may_be_used() && !self.sync_refused
+    }
+
+    fn len(&mut self) -> io::Result<usize> {
+        spend(&mut self.passes, &mut self.fails, &mut self.refused)?;
+        self.inner.len()
+    }
+
+    fn read_at(&mut self, at: usize, buf: &mut [u8]) -> io::Result<()> {
+        spend(&mut self.passes, &mut self.fails, &mut self.refused)?;
+        self.inner.read_at(at, buf)
+    }
+
+    fn read_checked(&mut self, key: u64, want: u64, at: usize, buf: &mut [u8]) -> io::Result<()> {
+        spend(&mut self.passes, &mut self.fails, &mut self.refused)?;
+        self.inner.read_checked(key, want, at, buf)
+    }
+
+    fn write_at(&mut self, at: usize, bytes: &[u8]) -> io::Result<()> {
+        spend(&mut self.passes, &mut self.fails, &mut self.refused)?;
+        self.inner.write_at(at, bytes)
+    }
+
+    fn set_len(&mut self, len: usize) -> io::Result<()> {
+        spend(&mut self.passes, &mut self.fails, &mut self.refused)?;
+        self.inner.set_len(len)
+    }
+
+    fn sync(&mut self) -> io::Result<()> {
+        if let Err(error) = spend(&mut self.passes, &mut self.fails, &mut self.refused) {
+            self.sync_refused = true;
+            return Err(error);
+        }
+        self.inner.sync()
+    }
+}
+
+impl<D: Crash> Crash for Weak<D> {
+    fn crash(&mut self) {
+        self.inner.crash();
+        self.fails = 0;
+        self.sync_refused = false;
+    }
+}
