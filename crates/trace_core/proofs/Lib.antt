@@ -6,6 +6,7 @@ pub mod BeyondSteps
 pub mod Booleans
 pub mod Carrying
 pub mod ChainLaws
+pub mod ChildLists
 pub mod Following
 pub mod FoundSteps
 pub mod GainSteps

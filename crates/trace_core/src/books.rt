@@ -9,6 +9,7 @@ ghost use Rattle.trace_core.specs.Looks.{one_look, more_looks, LooksAtEach};
 ghost use Rattle.trace_core.specs.Numbers.{numbered, number_in, outs_at, AreNumbersOf};
 ghost use Rattle.trace_core.specs.Pairs.{make_id, Carries, IsSentTo};
 ghost use Rattle.trace_core.specs.PairTests.{lists, same_id};
+ghost use Rattle.trace_core.specs.PutIn.{children_at};
 ghost use Rattle.trace_core.specs.Relations.{ReachedFrom};
 ghost use Rattle.trace_core.specs.Sendings.{AreNewlySent, HasItemOf};
 ghost use Rattle.trace_core.specs.SiteSets.{has_site};
@@ -195,6 +196,19 @@ impl Book {
             }
         }
         Ok(numbers)
+    }
+
+    /// The numbers of what events put into the item of a number, in order.
+    pub fn children_at(&self, number: usize) -> &[usize]
+        ensures { result.now ≡ children_at (numbered self.now) self.now
+            (slice_get (numbered self.now) number) }
+    {
+        self.index.packed.children_of(number)
+    }
+
+    /// The keys of the hash by which items and ids are looked up.
+    pub fn hash_keys(&self) -> RandomState {
+        self.index.items.keys()
     }
 
     /// The numbers of the outputs of the event at a place, none where there is no transformation. Each is a look.

@@ -12,6 +12,7 @@ mod books;
 mod captured;
 mod carried;
 mod chains;
+mod contents;
 mod event_items;
 mod found_items;
 mod gathering;
