@@ -1,0 +1,4 @@
+pub mod Adding
+pub mod Searches
+pub mod Shipments
+pub mod Sources

@@ -1,0 +1,17 @@
+//! What the packings of single sites miss.
+//!
+//! A site that ships a container on, which another site packed, has no event that tells what lies in it. The related
+//! pairs of `trace_core` stop there. What was packed elsewhere is known where the container came from there, over
+//! however many sites: the packing list travels with the goods. Where that tells more of a shipment than the site's own
+//! packings do, there is a packed gap.
+#![tactic(auto)]
+
+mod item_lists;
+mod places;
+mod searches;
+mod shipments;
+mod sources;
+mod walks;
+
+pub use searches::known_packings;
+pub use sources::{Source, Sources, sources_of};
