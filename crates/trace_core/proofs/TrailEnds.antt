@@ -1,5 +1,5 @@
 -- How a trail ends: the pair before its last one, and its last two.
-use Rattle.std.proofs.Common.{◌≡◌, ◌+◌, ◌-◌, ℕ, suc, List, [], ◌∷◌, ◌++◌, None, Some, drop, length, reverse, slice_get, take, refl, sym, ap, ◌∙◌, append_assoc, length-append, inl, inr, ⊎_elim, arith}
+use Rattle.std.proofs.Common.{◌≡◌, ◌-◌, suc, List, [], ◌∷◌, ◌++◌, Some, drop, length, reverse, slice_get, take, refl, sym, ap, ◌∙◌, append_assoc, length-append, inl, inr, ⊎_elim, arith}
 use mathlib.Core.Logic.{◌⊎◌}
 use Rattle.std.proofs.lemmas.List.{reverse-append}
 use Rattle.trace_core.specs.declared.pairs.Pair.{Pair}

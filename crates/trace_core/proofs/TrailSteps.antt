@@ -21,7 +21,7 @@ use Rattle.trace_core.specs.declared.steps.Step.{Step}
 use Rattle.trace_core.specs.Pairs.{pair_cmp}
 use Rattle.trace_core.specs.Relations.{IsChain, last_of, Reaches, Chain}
 use Rattle.trace_core.specs.Searches.{AreUnseen}
-use Rattle.trace_core.specs.Trails.{HaveNoRepeats, IsAt, pairs_of, IsPlaceOf, ArePlaces, GoBack, NotesSteps, AreSteps, TellsTrailBy}
+use Rattle.trace_core.specs.Trails.{HaveNoRepeats, IsAt, pairs_of, IsPlaceOf, ArePlaces, NotesSteps, AreSteps, TellsTrailBy}
 use Rattle.trace_core.proofs.ChainLaws.{reaches_itself, reaches_step, reached_holds}
 use Rattle.trace_core.proofs.Members.{contains_none, contains_cases, contains_here, contains-map}
 use Rattle.trace_core.proofs.PairOrder.{pairs_total, pairs_exact}

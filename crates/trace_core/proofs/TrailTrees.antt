@@ -1,12 +1,10 @@
 -- Trails as a tree of steps has them: each is the one to the step before, and then its own pair.
-use Rattle.std.proofs.Common.{◌≡◌, ◌≢◌, ◌<◌, ◌≤◌, ◌+◌, ◌-◌, ℕ, zero, suc, List, [], ◌∷◌, ◌++◌, Option, None, Some, drop, map, length, get_or, slice_get, All, refl, sym, ap, ◌∙◌, subst, ⊎_elim, append_assoc, length-append, arith}
-use mathlib.Core.Logic.{◌⊎◌}
+use Rattle.std.proofs.Common.{◌≡◌, ◌≢◌, ◌<◌, ◌≤◌, ◌+◌, ◌-◌, ℕ, zero, suc, List, [], ◌∷◌, ◌++◌, Option, None, Some, drop, map, length, get_or, All, refl, sym, ap, ◌∙◌, subst, ⊎_elim, append_assoc, length-append, arith}
 use Rattle.std.specs.List.{AllZip}
 use Rattle.std.specs.Option.{option_map}
 use Rattle.std.proofs.lemmas.Bool.{cases_eq}
 use Rattle.std.proofs.lemmas.List.{get_or_append_left, get_or-append_right, map-append}
 use Rattle.std.proofs.lemmas.List.Elements.{All-nil, All-cons}
-use Rattle.std.proofs.lemmas.Option.{slice_get-get_or}
 use Rattle.trace_core.specs.declared.pairs.Pair.{Pair}
 use Rattle.trace_core.specs.declared.steps.Step.{Step}
 use Rattle.trace_core.specs.Trails.{AreSteps, GoBack, IsAt, IsEnd, IsPlaceOf, TellsTrailBy, before_last, trail_at, trails_onto}

@@ -1,6 +1,5 @@
 use Rattle.std.proofs.Common.{ℕ, ◌+◌, Option, Some, take, sym, ap, subst, ◌∙◌}
 use Rattle.std.specs.List.{AllZip}
-use Rattle.trace_core.specs.declared.pairs.Pair.{Pair}
 use Rattle.trace_core.specs.Trails.{IsPlaceOf}
 use Rattle.trace_core.proofs.Zips.{zip_more}
 use Rattle.trace_core.proofs.trails.places_at.Goals.{in-Some+in_ok-push-in-Some, in-None}

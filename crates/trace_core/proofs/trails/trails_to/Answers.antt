@@ -1,7 +1,6 @@
-use Rattle.std.proofs.Common.{◌≡◌, List, All, Option, map, sym, ap, subst, ◌∙◌}
+use Rattle.std.proofs.Common.{◌≡◌, List, All, map, sym, ap, subst, ◌∙◌}
 use Rattle.std.specs.List.{AllZip}
 use Rattle.std.specs.Option.{option_map}
-use Rattle.trace_core.specs.declared.pairs.Pair.{Pair}
 use Rattle.trace_core.specs.declared.steps.Step.{Step}
 use Rattle.trace_core.specs.Chains.{Related, sites_at}
 use Rattle.trace_core.specs.Trails.{IsEnd, TellsTrail, trail_at}

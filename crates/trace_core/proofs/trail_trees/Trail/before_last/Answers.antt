@@ -1,5 +1,4 @@
-use Rattle.std.proofs.Common.{List, Some, get_or, sym, ap, ◌∙◌, arith}
-use Rattle.trace_core.specs.declared.pairs.Pair.{Pair}
+use Rattle.std.proofs.Common.{Some, get_or, sym, ap, ◌∙◌, arith}
 use Rattle.trace_core.specs.declared.steps.Step.{Step}
 use Rattle.trace_core.specs.Trails.{before_last, trail_at}
 use Rattle.trace_core.proofs.TrailSteps.{element}
