@@ -1,5 +1,5 @@
 -- The index of a list of events, as events are noted and taken back.
-use Rattle.std.proofs.Common.{◌≡◌, ℕ, true, false, List, [], ◌∷◌, ◌++◌, Some, is_some, length, take, drop, slice_get, refl, sym, ap, subst, ◌∙◌, ⊎_elim, arith, length-append}
+use Rattle.std.proofs.Common.{◌≡◌, ℕ, true, false, List, [], ◌∷◌, ◌++◌, Some, None, is_some, length, take, drop, slice_get, refl, sym, ap, subst, ◌∙◌, ⊎_elim, arith, length-append}
 use Rattle.std.specs.List.{Contains, list_any}
 use mathlib.Core.Bool.{false≢true}
 use Rattle.std.specs.Map.{lookup}
@@ -14,6 +14,7 @@ use Rattle.event_json.specs.declared.bodies.Body.{Body}
 use Rattle.event_json.specs.declared.bodies.Body.TheVariants.{Note, Ship, Make, Pack}
 use Rattle.trace_core.specs.declared.event_items.Members.{Members}
 use Rattle.trace_core.specs.declared.indexes.Index.{Index}
+use Rattle.trace_core.specs.EventIds.{hash_places}
 use Rattle.trace_core.specs.Indexes.{HasPlaces, NotesItems, ForgetsItems, KeepsItems}
 use Rattle.trace_core.specs.Numbers.{Named, with_names, numbered, names_of, item_places, outs_in, numbers_of, HasMembers}
 use Rattle.trace_core.specs.PairTests.{lists}
@@ -168,7 +169,7 @@ module _ (old new : List Named) (events : List Content) (e : Content) (b : Body)
   names_gone = names_back events taken.left new known gone_more.0 gone_more.1 taken.taken (sym before)
 
 -- before any event
-pub nothing_there : (index : Index) → index.items ≡ [] → index.members.items ≡ [] → index.ids.entries ≡ [] → index.parts.entries ≡ [] → index.sent ≡ [] → index.counts.items ≡ []
+pub nothing_there : (index : Index) → index.items ≡ [] → index.members.items ≡ [] → ((key : List ℕ) → hash_places index.ids.places key ≡ None) → index.parts.entries ≡ [] → index.sent ≡ [] → index.counts.items ≡ []
     → ((n : ℕ) → children_in index.packed n ≡ []) → HasPlaces index []
 nothing_there index items members ids parts sent counts packed = record {
   packed = none_packed (children_in index.packed) packed;
@@ -179,7 +180,7 @@ nothing_there index items members ids parts sent counts packed = record {
     members = record { count = ap length members; each = λ k e m at_e at_m. none_is e at_e };
   };
   ids = record {
-    ids = λ i. ap (λ es. lookup (λ k. bytes_eq i (string_bytes k)) es) ids;
+    ids = ids;
     parts = λ i. ap (λ es. lookup (λ k. bytes_eq i (string_bytes k)) es) parts;
   };
 }

@@ -8,6 +8,7 @@ pub mod Carrying
 pub mod ChainLaws
 pub mod ChildLists
 pub mod Following
+pub mod EventIdSteps
 pub mod FoundSteps
 pub mod GainSteps
 pub mod GapClosing

@@ -16,7 +16,7 @@ use Rattle.event_json.specs.declared.bodies.Body.{Body}
 use Rattle.trace_core.specs.PairTests.{lists, same_id}
 use Rattle.trace_core.specs.Pairs.{make_id}
 use Rattle.trace_core.specs.Spreads.{ins_in}
-use Rattle.trace_core.specs.Places.{places_where, kept, or_none, TextIndex, text_places, id_places, at_place, takes_item, IsIndex, IsNoted, AreEarlier, Notes, Forgets, KeepsNone}
+use Rattle.trace_core.specs.Places.{places_where, kept, or_none, id_places, at_place, takes_item, IsIndex, IsNoted, AreEarlier, Notes, Forgets, KeepsNone}
 use Rattle.trace_core.proofs.Members.{contains_here, contains_there, contains_cases, contains_none, contains-map, list_any_witness, list_any_member}
 use Rattle.trace_core.proofs.PlaceSteps.{kept_all}
 use Rattle.trace_core.proofs.SetMembers.{contains-from_map}
@@ -191,10 +191,10 @@ no_id None = refl
 no_id (Some a) = refl
 
 -- what is looked up under an id
-pub id_looked_up : (index : TextIndex) (id_of : Content → Option (List ℕ)) (events : List Content) → IsIndex (text_places index) (λ i e. same_id (id_of e) (Some i)) events
-    → (o : Option (List ℕ)) → id_places index o ≡ places_where (λ e. same_id (id_of e) o) events
-id_looked_up index id_of events is None = sym (places_none (λ e. same_id (id_of e) None) events (λ e. no_id (id_of e)))
-id_looked_up index id_of events is (Some id) = ap or_none (is id) ∙ kept_all (places_where (λ e. same_id (id_of e) (Some id)) events)
+pub id_looked_up : (found : List ℕ → Option (List ℕ)) (id_of : Content → Option (List ℕ)) (events : List Content) → IsIndex found (λ i e. same_id (id_of e) (Some i)) events
+    → (o : Option (List ℕ)) → id_places found o ≡ places_where (λ e. same_id (id_of e) o) events
+id_looked_up found id_of events is None = sym (places_none (λ e. same_id (id_of e) None) events (λ e. no_id (id_of e)))
+id_looked_up found id_of events is (Some id) = ap or_none (is id) ∙ kept_all (places_where (λ e. same_id (id_of e) (Some id)) events)
 
 -- a test of the events at the places of those that pass another one
 module _ (p q : Content → Bool) (events : List Content) where

@@ -2,16 +2,18 @@
 use Rattle.std.specs.Prelude.{◌≡◌, ℕ, Bool, List, ◌++◌, length, take}
 use Rattle.event_json.specs.Events.{Content}
 use Rattle.trace_core.specs.declared.indexes.Index.{Index}
+use Rattle.trace_core.specs.declared.event_ids.EventIds.{EventIds}
 use Rattle.trace_core.specs.declared.event_items.Members.{Members}
+use Rattle.trace_core.specs.EventIds.{hash_places, has_hash}
 use Rattle.trace_core.specs.Numbers.{Named, numbered, with_names, names_of, item_places, HasMembers}
 use Rattle.trace_core.specs.PairTests.{lists}
 use Rattle.trace_core.specs.PutIn.{children_in, HasPacked}
 use Rattle.trace_core.specs.Sendings.{HasSent}
-use Rattle.trace_core.specs.Places.{TextIndex, text_places, takes_item, has_id, has_part, IsIndex, Notes, NotesSome, Forgets, KeepsNone}
+use Rattle.trace_core.specs.Places.{TextIndex, text_places, takes_item, has_part, IsIndex, Notes, NotesSome, Forgets, KeepsNone}
 
--- the places of eventIDs and of the ids of transformations are those of the events
-pub record HasIds (by_id by_part : TextIndex) (events : List Content) : Type 0 where
-  pub ids : IsIndex (text_places by_id) has_id events
+-- the places of eventIDs, by their hashes, and of the ids of transformations are those of the events
+pub record HasIds (by_id : EventIds) (by_part : TextIndex) (events : List Content) : Type 0 where
+  pub ids : IsIndex (hash_places by_id.places) (has_hash by_id.keys) events
   pub parts : IsIndex (text_places by_part) has_part events
 
 -- the items are those of the events, with their numbers and the places of what takes them in

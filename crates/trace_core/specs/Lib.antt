@@ -3,6 +3,7 @@ pub mod AllFound
 pub mod Beyond
 pub mod Carried
 pub mod Chains
+pub mod EventIds
 pub mod Found
 pub mod Gaps
 pub mod Gathering

@@ -57,18 +57,14 @@ names_item item e = lists (items_of e.body) item
 abbrev pub takes_item : List ℕ → Content → Bool
 takes_item item e = lists (ins_in e.body) item
 
--- the event has the eventID
-abbrev pub has_id : List ℕ → Content → Bool
-has_id id e = same_id e.id (Some id)
-
 -- the event is a transformation with this id
 abbrev pub has_part : List ℕ → Content → Bool
 has_part id e = same_id (make_id e.body) (Some id)
 
 -- what is looked up under an id, nothing where there is none
-abbrev pub id_places : TextIndex → Option (List ℕ) → List ℕ
-id_places index None = []
-id_places index (Some id) = or_none (text_places index id)
+abbrev pub id_places : (List ℕ → Option (List ℕ)) → Option (List ℕ) → List ℕ
+id_places found None = []
+id_places found (Some id) = or_none (found id)
 
 -- whether an event stands there, and passes
 abbrev pub at_place : (Content → Bool) → Option Content → Bool

@@ -244,13 +244,31 @@ impl Book {
     pub fn standing(&self, event: &Event) -> Standing
         ensures { result ≡ standing_among self.now event.now }
     {
-        let places = places_of_id(&self.index.ids, event.id());
-        if places.is_empty() {
+        let places = self.index.ids.alike(event.id());
+        if !self.is_named_at(places, event) {
             Standing::Fresh
         } else if self.is_among(places, event) {
             Standing::Known
         } else {
             Standing::Taken
+        }
+    }
+
+    /// Whether an event with the same eventID stands at one of the places.
+    fn is_named_at(&self, places: &[usize], event: &Event) -> bool
+        ensures { result ≡ list_any (λ k. at_place (λ e. same_id e.id event.now.id)
+            (slice_get self.now k)) places.now }
+    {
+        places.iter().any(|place| self.has_id_at(*place, event))
+    }
+
+    /// Whether an event with the same eventID stands at a place.
+    fn has_id_at(&self, place: usize, event: &Event) -> bool
+        ensures { result ≡ at_place (λ e. same_id e.id event.now.id) (slice_get self.now place) }
+    {
+        match self.get(place) {
+            Some(own) => are_same_id(own.id(), event.id()),
+            None => false,
         }
     }
 
@@ -288,5 +306,16 @@ impl Book {
             copy.push(event.copy(alloc)?)?;
         }
         Ok(copy)
+    }
+}
+
+/// Whether both are eventIDs, and the same.
+fn are_same_id(one: Option<&PlainText>, other: Option<&PlainText>) -> bool
+    ensures { result ≡ same_id (option_map (λ t. t.now) one.entry)
+        (option_map (λ t. t.now) other.entry) }
+{
+    match (one, other) {
+        (Some(one), Some(other)) => *one == *other,
+        _ => false,
     }
 }

@@ -1,4 +1,4 @@
-//! The places of eventIDs and of the ids of transformations.
+//! The places of the ids of transformations.
 ghost use Rattle.std.specs.Prelude.{◌≡◌, ℕ, List, Some, OnOk, OnErr, option_map};
 ghost use Rattle.trace_core.specs.PairTests.{same_id, same_item};
 ghost use Rattle.trace_core.specs.Places.{text_places, id_places, is_emptied, ForgetsIn, Notes, Forgets};
@@ -15,7 +15,7 @@ pub type TextIndex = IndexMap<String, Places, RandomState>;
 
 /// The places of an id, none where there is no id.
 pub fn places_of_id<'a>(index: &'a TextIndex, id: Option<&PlainText>) -> &'a [usize]
-    ensures { result.now ≡ id_places index.now (option_map (λ t. t.now) id.entry) }
+    ensures { result.now ≡ id_places (text_places index.now) (option_map (λ t. t.now) id.entry) }
 {
     match id {
         Some(text) => match index.get(text.as_str()) {

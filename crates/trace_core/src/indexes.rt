@@ -6,6 +6,7 @@ ghost use Rattle.trace_core.specs.Numbers.{numbered};
 ghost use Rattle.trace_core.specs.PutIn.{children_in, put_at};
 ghost use Rattle.trace_core.specs.Sendings.{AreNewlySent, Extends, Goes, HasSent, SendsOn};
 
+use crate::event_ids::EventIds;
 use crate::event_items::{
     Members, forget_items_of, kept_numbers, moved_count, note_items_of, parent_number,
 };
@@ -29,8 +30,8 @@ pub struct Index {
     pub items: Items,
     /// By event: its members.
     pub members: Vec<Members>,
-    /// By eventID: the events that have it.
-    pub ids: TextIndex,
+    /// By the hash of an eventID: the events whose eventID has it.
+    pub ids: EventIds,
     /// By transformationID: the transformations that have it.
     pub parts: TextIndex,
     /// What all events sent, by the numbers of items.
@@ -50,7 +51,7 @@ impl Index {
         Index {
             items: Items::new(alloc, keys),
             members: Vec::new(alloc),
-            ids: IndexMap::with_hasher(alloc, keys),
+            ids: EventIds::new(alloc, keys),
             parts: IndexMap::with_hasher(alloc, keys),
             sent: Sent::new(alloc),
             counts: Vec::new(alloc),
@@ -125,7 +126,7 @@ impl Index {
         self.packed.forget(parent, moved_count(event.body()));
         forget_members(&mut self.items, &mut self.members, event, place);
         forget_sent(&mut self.sent, &mut self.counts);
-        forget_id(&mut self.ids, event.id(), place);
+        self.ids.forget(event.id(), place);
         forget_id(&mut self.parts, make_id(event.body()), place);
     }
 }
@@ -159,7 +160,7 @@ fn note_rest(
     alloc: Global,
     sent: &mut Sent,
     packed: &mut Packed,
-    ids: &mut TextIndex,
+    ids: &mut EventIds,
     parts: &mut TextIndex,
     event: &Event,
     parent: Option<usize>,
@@ -191,7 +192,7 @@ fn note_rest(
 /// Notes the ids of the event that comes at a place. An `Err` changes nothing that can be looked up.
 fn note_ids(
     alloc: Global,
-    ids: &mut TextIndex,
+    ids: &mut EventIds,
     parts: &mut TextIndex,
     event: &Event,
     place: usize,
@@ -201,11 +202,11 @@ fn note_ids(
     ensures err { OnErr result ((events : List Content) → place ≡ length events
         → HasIds ids.old parts.old events → HasIds ids.new parts.new events) }
 {
-    note_id(alloc, ids, event.id(), place)?;
+    ids.note(alloc, event.id(), place)?;
     match note_id(alloc, parts, make_id(event.body()), place) {
         Ok(()) => Ok(()),
         Err(_) => {
-            forget_id(ids, event.id(), place);
+            ids.forget(event.id(), place);
             Err(AllocError)
         }
     }

@@ -13,6 +13,7 @@ mod captured;
 mod carried;
 mod chains;
 mod contents;
+mod event_ids;
 mod event_items;
 mod found_items;
 mod gathering;
