@@ -133,7 +133,8 @@ fn check_count(list: &[Value]) -> Result<(), DocFault>
 
 /// The events of a document's value, with destinations looked up among the sites; or its first fault.
 ///
-/// Each event is checked before the first is kept, so a fault is found without allocating.
+/// Each event is checked and built in one pass. Where memory runs out, all are checked once more, which doesn't
+/// allocate: so a document that has a fault is refused with it.
 ///
 /// # Errors
 /// `Doc` with the document's first fault, or `NoMemory` where it has none.
@@ -145,8 +146,14 @@ pub fn read_value(alloc: Global, value: &Value, sites: &Sites) -> Result<Doc, Re
 {
     let list = event_list(value)?;
     check_count(list)?;
-    check_events(list)?;
-    each_event(alloc, sites, list)
+    match each_event(alloc, sites, list) {
+        Ok(doc) => Ok(doc),
+        Err(ReadFault::NoMemory) => {
+            check_events(list)?;
+            Err(ReadFault::NoMemory)
+        }
+        Err(fault) => Err(fault),
+    }
 }
 
 /// The events of a document in the JSON form of GS1 EPCIS 2.0, an EPCISDocument or one
