@@ -37,8 +37,13 @@ fn is_closed_inside(
     Ok(true)
 }
 
-/// Whether what is made at a site of items of a set is in the set: then their whole spread is.
-fn is_closed_set(alloc: Global, captured: &Captured, items: &ItemSet) -> Result<bool, AllocError>
+/// Whether what is made at a site of items of a set is in the set: then their whole spread is. There is one search for
+/// all of them, which comes to each transformation once.
+pub fn is_closed_set(
+    alloc: Global,
+    captured: &Captured,
+    items: &ItemSet,
+) -> Result<bool, AllocError>
     ensures { IfOk result (λ closed. IsTrue closed ↔ IsClosedSet captured.now items.now) }
 {
     let starts = in_order(alloc, items)?;

@@ -31,6 +31,7 @@ mod steps;
 mod undoing;
 
 pub use capturing::{CaptureFault, capture_all};
+pub use closing::is_closed_set;
 pub use emitting::emittable;
 pub use inputs::SiteInput;
 pub use item_sets::ItemSet;

@@ -9,13 +9,8 @@ use Rattle.std.specs.Prelude.{IsTrue}
 use Rattle.frame_core.specs.Orders.{recall_total, recall_exact}
 use Rattle.frame_core.specs.declared.rows.Row.{Row}
 use Rattle.frame_core.proofs.Lookups.{one_key}
-use Rattle.trace_core.specs.Pairs.{IsSentTo, IsShipped, IsRelated}
-use Rattle.trace_core.specs.Sites.{SiteEvents}
-use Rattle.trace_core.specs.Spreads.{Inside}
 use Rattle.trace_core.specs.declared.pairs.Pair.{Pair}
 use Rattle.trace_core.proofs.Members.{contains_here, contains_there, contains_cases, contains_none}
-use Rattle.site_core.specs.ItemSets.{Items}
-use Rattle.site_core.specs.ItemSets as set
 use Rattle.site_core.proofs.ItemOrder.{item_total, item_exact}
 use Rattle.site_core.proofs.Entries.{entry_found, entry_there}
 use Rattle.site_recovery.proofs.MapsOfSites.{Each}
@@ -39,26 +34,6 @@ denied : (b : Bool) (N S : Type 0) → (IsTrue b ↔ N) → ((N → ⊥) → S) 
 denied true N S decides found apart = (λ h. absurd (false≢true h), λ s. absurd (apart s (decides.0 refl)))
 denied false N S decides found apart = (λ _. found (λ n. false≢true (decides.1 n)), λ _. refl)
 
--- pairs that an item is related to
-abbrev pub AreRelated : SiteEvents → List ℕ → List Pair → Type 0
-AreRelated c i pairs = (p : Pair) → Contains pairs p ↔ IsRelated c i p
-
-pub related_at : (c d : SiteEvents) (i : List ℕ) (pairs same : List Pair) → d ≡ c → same ≡ pairs → AreRelated d i pairs → AreRelated c i same
-related_at c d i pairs same is listed exact = subst (λ ps. AreRelated c i ps) (sym listed) (subst (λ z. AreRelated z i pairs) is exact)
-
-shipped_to : (c : SiteEvents) (i : List ℕ) (to : ℕ) (p : Pair) → c.me ≢ to → p.site ≡ to → IsRelated c i p → IsShipped c i (record { site = to; item = i })
-shipped_to c i to p apart at related = elim related as (λ _. IsShipped c i (record { site = to; item = i })) [
-  | inl shipped ↦ (λ here. apart (sym here), refl, subst (λ t. IsSentTo c.events i t) at shipped.2)
-  | inr made ↦ absurd (apart (sym made.0 ∙ at))
-]
-
-pub ships_decided : (c : SiteEvents) (i : List ℕ) (to : ℕ) (pairs : List Pair) (b : Bool) → AreRelated c i pairs → c.me ≢ to
-    → (IsTrue b ↔ ((p : Pair) → Contains pairs p → p.site ≡ to → ⊥)) → IsTrue (not b) ↔ IsShipped c i (record { site = to; item = i })
-ships_decided c i to pairs b exact apart decides =
-    denied b ((p : Pair) → Contains pairs p → p.site ≡ to → ⊥) (IsShipped c i (record { site = to; item = i })) decides
-    (λ some. let p = found_one (λ p. p.site ≡ to) (λ p. one_place p.site to) pairs some in shipped_to c i to p.0 apart p.2 ((exact p.0).0 p.1))
-    (λ shipped none. none (record { site = to; item = i }) ((exact (record { site = to; item = i })).1 (inl shipped)) refl)
-
 one_row : (x y : Row) → (x ≡ y) ⊎ (x ≢ y)
 one_row x y = elim (one_place x.dest y.dest) as (λ _. (x ≡ y) ⊎ (x ≢ y)) [
   | inr apart ↦ inr (λ same. apart (ap (λ (z : Row). z.dest) same))
@@ -78,13 +53,6 @@ tells_decided m es same x b decides =
     let e = found_one (λ (e : ℕ × Row). e.1 ≡ x) (λ e. one_row e.1 x) es (λ none. some (λ k v at. none (k, v) at)) in
     (e.0.0, entry_found nat_cmp_total m e.0.0 e.0.1 (subst (λ xs. Contains xs e.0) same e.1) ∙ ap Some e.2))
     (λ told none. none told.0 x (subst (λ xs. Contains xs (told.0, x)) (sym same) (entry_there nat_cmp_total nat_cmp-IsAntisymmetric m told.0 x told.1)) refl)
-
-pub made_decided : (c : SiteEvents) (i : List ℕ) (pairs : List Pair) (items : Items) (b : Bool) → AreRelated c i pairs
-    → (IsTrue b ↔ ((p : Pair) → Contains pairs p → p.site ≡ c.me → IsTrue (set.contains items p.item))) → IsTrue b ↔ ((j : List ℕ) → Inside c i j → IsTrue (set.contains items j))
-made_decided c i pairs items b exact decides = (
-  λ h j inside. decides.0 h (record { site = c.me; item = j }) ((exact (record { site = c.me; item = j })).1 inside) refl,
-  λ all. decides.1 (λ p at here. all p.item (subst (λ z. IsRelated c i (record { site = z; item = p.item })) here ((exact p).0 at))),
-)
 
 one_pair : (p q : Pair) → (p ≡ q) ⊎ (p ≢ q)
 one_pair p q = elim (one_place p.site q.site) as (λ _. (p ≡ q) ⊎ (p ≢ q)) [

@@ -2,11 +2,10 @@
 ghost use Rattle.std.specs.Prelude.{◌↔◌, ℕ, List, IfOk, IsTrue, Some};
 
 use crate::conditions::Condition;
-use crate::every::{EntryTest, each_entry, each_key};
-use crate::pairs::Made;
+use crate::every::{EntryTest, each_entry};
 use event_json::SiteNo;
 use frame_core::RecallId;
-use site_core::{ItemSet, SiteState};
+use site_core::{ItemSet, SiteState, is_closed_set};
 use std::alloc::{AllocError, Global};
 
 /// A set of items of the site that has what is made of them there.
@@ -29,11 +28,7 @@ impl EntryTest<RecallId, ItemSet> for ClosedSet<'_> {
         _recall: &RecallId,
         items: &ItemSet,
     ) -> Result<bool, AllocError> {
-        let made = Made {
-            state: self.state,
-            items,
-        };
-        each_key(alloc, items.items(), &made)
+        is_closed_set(alloc, self.state.captured(), items)
     }
 }
 

@@ -61,10 +61,10 @@ impl EntryTest<u64, Row> for JustRow<'_> {
 
     ghost holds = { λ t _ x. IsJust t.state.now x };
 
-    fn passes(&self, alloc: Global, _number: &u64, row: &Row) -> Result<bool, AllocError> {
+    fn passes(&self, _alloc: Global, _number: &u64, row: &Row) -> Result<bool, AllocError> {
         Ok(
             self.state.quarantine().holds(row.recall, &row.item)
-                && ships(alloc, self.state, &row.item, row.dest)?,
+                && ships(self.state, &row.item, row.dest),
         )
     }
 }
