@@ -20,6 +20,12 @@ usage: scripts.py SHAPE N [--random] [--asks N] [--documents SITE]
   held               a recall that holds N inputs of a transformation in parts, and then 2N parts more
   late-inputs        a recall that holds N outputs of a transformation and 100 inputs, which come into it in one part
   reworked           N days of one item each, made of the one of the day before, and a recall of the first
+  packings           N items put into cartons of their own at a site, which made one of them and ships that carton to
+                     places that aren't traced; and a recall of what it was made of
+  stages             twenty transformations of N inputs and N outputs, each of which takes in what the one before gave
+                     out, and a recall of one of the first inputs
+  open               N items that are shipped to a site, which makes them into one batch of a thousand, and a recall of
+                     each, of which no message is sent
 
 --random gives the items serial numbers in no order, as tags have them, in place of i0, i1, ..
 --ids gives each event an eventID, a random UUID. --asks N asks N times what the first item reaches. --documents SITE prints the documents of a site alone, one a line.
@@ -145,6 +151,17 @@ def lines_of(shape, n, name):
         of_one = joined([name(2 * n)], outputs + late, "s")
         return (at("A", of_one) + [f"recall A {name(2 * n)}"] + at("A", (made([], piece, "t") for piece in in_pieces(outputs)))
                 + at("A", [made(late, [], "t")]))
+    if shape == "packings":
+        cartons = [packed(f"c{i}", [item]) for i, item in enumerate(inputs)]
+        return at("A", [made([name(2 * n)], inputs[:1])] + cartons
+                  + [shipped(["c0"], f"out{i}") for i in range(10)]) + [f"recall A {name(2 * n)}"]
+    if shape == "stages":
+        rows = [[name(stage * n + i) for i in range(n)] for stage in range(21)]
+        return at("A", (made(first, second) for first, second in zip(rows, rows[1:]))) + [f"recall A {name(0)}"]
+    if shape == "open":
+        batch = [name(n + i) for i in range(MOST)]
+        return (at("A", ships) + at("B", joined(inputs, batch, "t"))
+                + [f"recall A {item}" for item in inputs])
     if shape == "reworked":
         return at("A", (made([name(i)], [name(i + 1)]) for i in range(n))) + [f"recall A {name(0)}"]
     raise SystemExit(f"no such shape: {shape}")
