@@ -118,6 +118,18 @@ again="captured 0 known 2 skipped 0 $chain/shop-2.json"
 wants 1 "$(printf '%s\n' "$again" 'refused Doc Syntax event 0 field document bad.json' "$again" 'documents 3 captured 0 known 4 skipped 0 refused 1')" \
     '' capture chain shop-2 "$chain/shop-2.json" bad.json "$chain/shop-2.json"
 wants 3 "$again" "$(printf 'fault Read\nfile none: no such file or folder')" capture chain shop-2 "$chain/shop-2.json" none bad.json
+# A file's name makes no line of its own, and turns no text around; other names are as they are.
+mkdir inbox
+for name in $'1\ncaptured 9 known 0 skipped 0 bank.json' $'2\e[2K\xc2\x9b\xe2\x80\xae\\' '3 Fähre'; do
+    cp "$chain/shop-2.json" "inbox/$name"
+done
+wants 0 "$(printf '%s\n' 'captured 0 known 2 skipped 0 inbox/1\u{a}captured 9 known 0 skipped 0 bank.json' \
+    'captured 0 known 2 skipped 0 inbox/2\u{1b}[2K\u{9b}\u{202e}\\' 'captured 0 known 2 skipped 0 inbox/3 Fähre' \
+    'documents 3 captured 0 known 6 skipped 0 refused 0')" '' capture chain shop-2 inbox/*
+cp bad.json $'inbox/4\n{'
+wants 1 "$(printf '%s\n' 'fault Syntax event 0 field document inbox/4\u{a}{' 'total events 0 faults 1 warnings 0')" '' lint "$chain/sites" $'inbox/4\n{'
+wants 1 "$(printf '{"event":0,"fault":"Syntax","field":"document","file":"inbox/4\\n{"}\n{"total":{"events":0,"faults":1,"warnings":0}}')" '' \
+    lint "$chain/sites" $'inbox/4\n{' --json
 wants 1 'refused NoSite farm' '' capture chain farm none none
 printf '%s\n \r\n{' "$(tr -d '\n' <"$chain/shop-2.json")" >lines
 wants 1 "$(printf '%s\n' 'captured 0 known 2 skipped 0 lines:1' 'refused Doc Syntax event 0 field document lines:3' \

@@ -70,6 +70,8 @@ done
 faults Read 'none/sites: no such file or folder' "$recall" audit none
 faults Device 'none/dairy.db: no such file or folder' "$recall" init none "$chain/sites"
 faults Read 'none: no such file or folder' "$recall" init at none
+faults Read 'no\u{a}fault Write/sites: no such file or folder' "$recall" audit $'no\nfault Write'
+faults Read 'Fähre 7/sites: no such file or folder' "$recall" audit 'Fähre 7'
 fresh
 echo 'site late z' >>at/sites
 faults OtherSites at/dairy.db "$recall" audit at
@@ -150,6 +152,9 @@ if command -v sqlite3 >/dev/null; then
     spoilt NotAStore "t isn't of a site" 'create table t (a)'
     spoilt NotAStore "i isn't of a site" 'create index i on event (id)'
     spoilt NotAStore "v isn't of a site" 'create view v as select no from event'
+    # Names of strangers are one line, and move no cursor.
+    spoilt NotAStore 't\u{a}fault Read\u{1b}[2J\\\u{202e}\u{9b} isn'"'t of a site" "create table \"t"$'\nfault Read\e[2J\\\xe2\x80\xae\xc2\x9b'"\" (a)"
+    spoilt OtherSite 'the file of a\u{a}b' "update site set name = 'a' || char(10) || 'b' where no = (select me from store)"
     spoilt NotAStore 'the table seen is missing' 'drop table seen'
     spoilt NotAStore 'the table store has no row of the version of the tables' 'delete from store'
     spoilt NotAStore 'a table is declared otherwise' 'drop table seen; create table seen (sender integer) strict'

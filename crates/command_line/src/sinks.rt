@@ -8,7 +8,7 @@ ghost use Rattle.document_lint.specs.Lines.{lint_json};
 use document_lint::Lint;
 use event_json::Sites;
 use folder_commands::{InputSink, LintSink};
-use outcome_forms::{Form, write_input};
+use outcome_forms::{Form, shown, write_input};
 use recall_outcomes::{Fault, InputOutcome, Task};
 use recall_text::write_text;
 use std::alloc::{AllocError, Global};
@@ -61,13 +61,16 @@ impl<W: Write> LintSink<W> for LintLines {
     }
 }
 
-/// The lines of what is found in a document.
+/// The lines of what is found in a document. In lines of words its path is as it is shown.
 fn lint_lines(alloc: Global, form: Form, path: &str, found: &Lint) -> Result<String, AllocError>
     ensures { form ≡ Form.Json → IfOk result (λ t. string_bytes t ≡ lint_json path.now found.now) }
 {
     match form {
         Form::Json => found.json(alloc, path),
-        Form::Text | Form::Csv | Form::Dot => found.text(alloc, path),
+        Form::Text | Form::Csv | Form::Dot => {
+            let path = shown(alloc, path)?;
+            found.text(alloc, path.as_str())
+        }
     }
 }
 

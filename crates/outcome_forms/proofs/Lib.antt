@@ -1,7 +1,9 @@
 pub mod JsonLists
 pub mod Lines
 pub mod Reading
+pub mod ShownLemmas
 pub mod TellingLaws
+pub mod ToldApart
 pub mod Trees
 pub mod ValueLaws
 pub mod WordLemmas

@@ -1,6 +1,7 @@
 //! Faults and what is known of their causes, in words: one line a kind.
 
 use crate::forms::Form;
+use crate::shown_texts::shown;
 use recall_outcomes::{Cause, Failure, Fault};
 use std::alloc::{AllocError, Global};
 
@@ -170,12 +171,13 @@ pub(crate) fn cause_words(alloc: Global, cause: &Cause) -> Result<String, AllocE
     }
 }
 
-/// The file that a fault is about and what is known of that, as `file f/north.db: no space left`, with its LF.
+/// The file that a fault is about and what is known of that, as `file f/north.db: no space left`, with its LF. It is one
+/// line of plain characters, whatever the file's name is and the cause names.
 pub fn failure_line(alloc: Global, failure: &Failure) -> Result<String, AllocError> {
-    let file = failure.file.as_str();
+    let file = shown(alloc, failure.file.as_str())?;
     match &failure.cause {
         Some(cause) => {
-            let words = cause_words(alloc, cause)?;
+            let words = shown(alloc, cause_words(alloc, cause)?.as_str())?;
             format!(in alloc; "file {file}: {words}\n")
         }
         None => format!(in alloc; "file {file}\n"),

@@ -1,5 +1,6 @@
-//! Laws of the JSON of outcomes, each named by a function with an empty body whose contract is the law.
+//! Laws of the JSON of outcomes and of texts that are shown, each named by a function with an empty body whose contract is the law.
 
+ghost use Rattle.outcome_forms.specs.Shown.{PlainTextsStay, ShownTextsAreToldApart};
 ghost use Rattle.outcome_forms.specs.Telling.{LinesTellValues, ValuesAreRead, ValuesTellKinds, ValuesTellOutcomes};
 
 /// The same lines of JSON are those of the same values, where numbers have 64 bits.
@@ -21,4 +22,14 @@ pub fn values_tell_kinds()
 /// listed.
 pub fn values_tell_outcomes()
     ensures { ValuesTellOutcomes }
+{}
+
+/// Two texts that are shown alike are one, where both are UTF-8.
+pub fn shown_texts_are_told_apart()
+    ensures { ShownTextsAreToldApart }
+{}
+
+/// A text without hidden characters and backslashes is shown as it is.
+pub fn plain_texts_stay()
+    ensures { PlainTextsStay }
 {}

@@ -2,7 +2,8 @@
 //!
 //! Of JSON it is proved that the lines are those of the values of the outcome, that they are read back as these, and
 //! that no member of an outcome is lost in them; of rows, that they are read back; of a picture, that no text of others
-//! becomes a part of its language. Texts are plain code: tests on the program say what they are.
+//! becomes a part of its language; of a text of a stranger, that what is shown of it is one line of plain characters.
+//! Other texts are plain code: tests on the program say what they are.
 #![tactic(auto)]
 
 mod account_json;
@@ -20,6 +21,7 @@ mod outcome_json;
 mod outcome_texts;
 mod query_json;
 mod sentences;
+mod shown_texts;
 mod step_json;
 mod values;
 mod writing;
@@ -27,4 +29,5 @@ mod writing;
 pub use beside::{write_beside, write_fault, write_untraced};
 pub use fault_texts::{failure_line, fault_line};
 pub use forms::Form;
+pub use shown_texts::shown;
 pub use writing::{write_input, write_outcome, write_totals};

@@ -1,5 +1,6 @@
 //! Outcomes in lines of words, but for reports and traces.
 
+use crate::shown_texts::shown;
 use event_json::Sites;
 use frame_core::RecallId;
 use query_core::{RecallDetail, RecallStatus, SiteStanding, WaitingMessage};
@@ -196,13 +197,14 @@ fn line_words(alloc: Global, refused: &RefusedLine) -> Result<String, AllocError
     }
 }
 
-/// The line of an input of several, with its source behind it.
+/// The line of an input of several, with its source, as it is shown, behind it.
 pub(crate) fn input_text(
     alloc: Global,
     sites: &Sites,
     source: &str,
     came: &InputOutcome,
 ) -> Result<String, AllocError> {
+    let source = shown(alloc, source)?;
     match came {
         InputOutcome::Captured {
             fresh,
