@@ -262,9 +262,30 @@ faults Read 'damaged/sites: longer than 1 MiB' audit damaged
 truncate -s 1048576 damaged/sites
 rm -rf ways && mkdir ways
 wants 1 'refused NoWorld' '' init ways damaged/sites
+# A document, or a line, has at most 64 MiB, or so many bytes as is asked for; one that is longer isn't read.
+truncate -s 67108865 long.json
+faults Read 'long.json: longer than 64 MiB' capture chain dairy long.json
 truncate -s 1073741825 long.json
-faults Read 'long.json: longer than 1 GiB' capture chain dairy long.json
+faults Read 'long.json: longer than 1024 MiB' capture chain dairy long.json --max-bytes 1073741824
 rm long.json
+document=$chain/shop-2.json
+size=$(stat -c %s "$document")
+faults Read "$document: longer than $((size - 1)) bytes" capture chain shop-2 "$document" --max-bytes $((size - 1))
+faults Read "$document: longer than $((size - 1)) bytes" capture chain shop-2 "$document" bad.json --max-bytes $((size - 1))
+faults Read "$document: longer than $((size - 1)) bytes" lint "$chain/sites" "$document" --max-bytes $((size - 1))
+wants 0 'captured 0 known 2 skipped 0' '' capture chain shop-2 "$document" --max-bytes "$size"
+"$recall" capture chain shop-2 - --max-bytes $((size - 1)) <"$document" >out 2>err
+[ $? = 3 ] && [ ! -s out ] && [ "$(sed -n 2p err)" = "file -: longer than $((size - 1)) bytes" ] || { echo "a pipe that is too long: $(cat out err)" >&2; failed=1; }
+printf '{}\n{"a":1}\n{}\n' >some
+wants 3 'refused Doc NotDocument event 0 field document some:1' "$(printf 'fault Read\nfile some: longer than 6 bytes')" \
+    capture chain shop-2 --lines some --max-bytes 6
+printf 'x\n%s\n' "$tank" >some
+wants 3 'refused UnknownItem some:1' "$(printf 'fault Read\nfile some: longer than %s bytes' $((${#tank} - 1)))" \
+    start starts plant --from some --max-bytes $((${#tank} - 1))
+for wrong in 0 1073741825 1k; do
+    "$recall" capture chain shop-2 "$document" --max-bytes "$wrong" >out 2>err
+    [ $? = 2 ] && [ ! -s out ] || { echo "--max-bytes $wrong: $(cat out err)" >&2; failed=1; }
+done
 mkfifo pipe
 cat "$chain/shop-2.json" >pipe &
 wants 0 'captured 0 known 2 skipped 0' '' capture chain shop-2 pipe

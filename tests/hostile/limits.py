@@ -222,7 +222,7 @@ def documents(tally, made, work, thing):
     path = work / "document"
     path.unlink(missing_ok=True)
     words = ["capture", folder, "plant", path]
-    wanted = (3, b"", f"fault Read\nfile {path}: longer than 1 GiB\n".encode())
+    wanted = (3, b"", f"fault Read\nfile {path}: longer than 64 MiB\n".encode())
     if thing == "a pipe":
         os.mkfifo(path)
         wanted = (0, b"captured 1 known 0 skipped 0\n", b"")

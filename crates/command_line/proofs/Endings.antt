@@ -16,29 +16,29 @@ use Rattle.command_line.specs.declared.command_lines.FileCommand.{FileCommand}
 use Rattle.command_line.specs.declared.command_lines.Terms.{Terms}
 use Rattle.command_line.specs.declared.lint_commands.LintFiles.{LintFiles}
 
-module _ {F K G W : Type 0} (does : F → FileCall K → F → Type 0) (waits : F → ℕ → F → Type 0) (knows : F → List ℕ → List ℕ → Type 0) (shown : K → Option Record) (failed : K → ℕ) (may : K → Record → Type 0) (reopens : K → Result K (Unopened K) → Type 0) (gives_up : G → ℕ → ℕ → Type 0) (stored : K → Type 0) (contents : W → Option (List ℕ)) where
+module _ {F K G W : Type 0} (does : F → FileCall K → F → Type 0) (waits limits : F → ℕ → F → Type 0) (knows : F → List ℕ → List ℕ → Type 0) (shown : K → Option Record) (failed : K → ℕ) (may : K → Record → Type 0) (reopens : K → Result K (Unopened K) → Type 0) (gives_up : G → ℕ → ℕ → Type 0) (stored : K → Type 0) (contents : W → Option (List ℕ)) where
   pub ends_mistaken : (words : List (String Global)) (old new : F) (before after : Streams W) → IsBad (texts_of words) → new ≡ old
       → Keeps before.input after.input → Keeps (contents before.output) (contents after.output)
-      → Ends does waits knows shown failed may reopens gives_up stored contents words old new before after 2
+      → Ends does waits limits knows shown failed may reopens gives_up stored contents words old new before after 2
   ends_mistaken words old new before after bad uncalled unread unwritten = inr (inr (inr (inr (inl (bad, uncalled, unread, unwritten, refl)))))
 
-  pub ends_files : (words : List (String Global)) (old mid new : F) (before after : Streams W) (status : ℕ) (command : FileCommand) (terms : Terms) (came : Result Output Fault)
-      → AsksFiles (texts_of words) command terms → waits old terms.wait mid
+  pub ends_files : (words : List (String Global)) (old first mid new : F) (before after : Streams W) (status : ℕ) (command : FileCommand) (terms : Terms) (came : Result Output Fault)
+      → AsksFiles (texts_of words) command terms → waits old terms.wait first → limits first terms.most mid
       → IfOk came (λ output. Led does mid new (LeadsTo (knows new) shown failed may stored command output))
       → IfErr came (λ fault. Led does mid new (FailsBy shown failed may reopens gives_up stored command fault))
       → Keeps before.input after.input → CommandEnds terms.form came (contents before.output) (contents after.output) status
-      → Ends does waits knows shown failed may reopens gives_up stored contents words old new before after status
-  ends_files words old mid new before after status command terms came asked waited led broke unread ends =
-      inr (inl (record { command = command; terms = terms; asked = asked; mid = mid; waited = waited; came = came; led = led; broke = broke; unread = unread; ends = ends }))
+      → Ends does waits limits knows shown failed may reopens gives_up stored contents words old new before after status
+  ends_files words old first mid new before after status command terms came asked waited limited led broke unread ends =
+      inr (inl (record { command = command; terms = terms; asked = asked; first = first; waited = waited; mid = mid; limited = limited; came = came; led = led; broke = broke; unread = unread; ends = ends }))
 
   pub ends_batch : (words : List (String Global)) (old new : F) (before after : Streams W) (status : ℕ) (batch : Batch) → AsksBatch (texts_of words) batch → Keeps before.input after.input
-      → TellsBatch does waits shown may stored contents batch old new before.output after.output status
-      → Ends does waits knows shown failed may reopens gives_up stored contents words old new before after status
+      → TellsBatch does waits limits shown may stored contents batch old new before.output after.output status
+      → Ends does waits limits knows shown failed may reopens gives_up stored contents words old new before after status
   ends_batch words old new before after status batch asked unread ends =
       inr (inr (inl (inl (record { batch = batch; asked = asked; unread = unread; ends = ends }))))
 
   pub ends_lint : (words : List (String Global)) (old new : F) (before after : Streams W) (status : ℕ) (files : LintFiles) → AsksLint (texts_of words) files → Keeps before.input after.input
-      → TellsLint does contents files old new before.output after.output status
-      → Ends does waits knows shown failed may reopens gives_up stored contents words old new before after status
+      → TellsLint does limits contents files old new before.output after.output status
+      → Ends does waits limits knows shown failed may reopens gives_up stored contents words old new before after status
   ends_lint words old new before after status files asked unread ends =
       inr (inr (inl (inr (record { files = files; asked = asked; unread = unread; ends = ends }))))

@@ -149,7 +149,7 @@ module _ {K : Type 0} (shown : K → Option Record) (may : K → Record → Type
       rest_asks [] all = each_asks takes at.listed.sites (here_of at.listed.sites site) paths _ all.last at.rest all.each
       rest_asks (why ∷ whys) (refused, same, none) = subst (λ (cs : List (FileCall K)). OnlyAsks cs) (sym none) none_asks
 
-module _ {F K G W : Type 0} (does : F → FileCall K → F → Type 0) (waits : F → ℕ → F → Type 0) (knows : F → List ℕ → List ℕ → Type 0) (shown : K → Option Record) (failed : K → ℕ) (may : K → Record → Type 0) (reopens : K → Result K (Unopened K) → Type 0) (gives_up : G → ℕ → ℕ → Type 0) (stored : K → Type 0) (contents : W → Option (List ℕ))
+module _ {F K G W : Type 0} (does : F → FileCall K → F → Type 0) (waits limits : F → ℕ → F → Type 0) (knows : F → List ℕ → List ℕ → Type 0) (shown : K → Option Record) (failed : K → ℕ) (may : K → Record → Type 0) (reopens : K → Result K (Unopened K) → Type 0) (gives_up : G → ℕ → ℕ → Type 0) (stored : K → Type 0) (contents : W → Option (List ℕ))
     (opens : (k : K) → shown k ≡ None → (r : Record) × may k r) where
   pub unasked : (old new : F) → new ≡ old → LeadByActs shown may does old new
   unasked old new same = (old, record { calls = []; are = none_acts shown may opens stored [] tt; led = same })
@@ -170,11 +170,11 @@ module _ {F K G W : Type 0} (does : F → FileCall K → F → Type 0) (waits : 
   lint_acts files old new before lines (Err fault) looked = led_so does old new (λ calls l. asked_acts shown may opens stored calls l.harmless) looked
 
   -- however a command line ends
-  pub ends_acts : (words : List (String Global)) (old new : F) (before after : Streams W) (status : ℕ) → Ends does waits knows shown failed may reopens gives_up stored contents words old new before after status → LeadByActs shown may does old new
+  pub ends_acts : (words : List (String Global)) (old new : F) (before after : Streams W) (status : ℕ) → Ends does waits limits knows shown failed may reopens gives_up stored contents words old new before after status → LeadByActs shown may does old new
   ends_acts words old new before after status (inl runs) = unasked old new runs.2
   ends_acts words old new before after status (inr (inl d)) = (d.mid, files_acts d.command d.mid new d.came d.led d.broke)
   ends_acts words old new before after status (inr (inr (inl (inl d)))) = (d.ends.mid, batch_acts d.batch d.ends.mid new before.output d.ends.lines d.ends.came d.ends.taken)
-  ends_acts words old new before after status (inr (inr (inl (inr d)))) = (old, lint_acts d.files old new before.output d.ends.lines d.ends.came d.ends.looked)
+  ends_acts words old new before after status (inr (inr (inl (inr d)))) = (d.ends.mid, lint_acts d.files d.ends.mid new before.output d.ends.lines d.ends.came d.ends.looked)
   ends_acts words old new before after status (inr (inr (inr (inl helps)))) = unasked old new helps.1
   ends_acts words old new before after status (inr (inr (inr (inr (inl bad))))) = unasked old new bad.1
   ends_acts words old new before after status (inr (inr (inr (inr (inr lacks))))) = unasked old new lacks.0

@@ -174,6 +174,11 @@ lint_named name rows (Some (asked.Lint files)) e is = (e, is)
 lint_named name rows (Some (asked.Help text)) e is = absurd is
 lint_named name rows (Some (asked.Mistake text)) e is = absurd is
 
+-- what a name and its rows ask for is asked for where they are what was found
+pub found_named : (found : Option (Text × List Row)) (name : Text) (rows : List Row) (result : Option Asked) → found ≡ Some (name, rows) → IfSome result (AsksOf name rows) → IfSome result (AsksNamed found)
+found_named found name rows None e is = tt
+found_named found name rows (Some what) e is = subst (λ (f : Option (Text × List Row)). AsksNamed f what) (sym e) is
+
 -- where options contradict one another, that is what is wrong
 pub mistake_named : (found : Option (Text × List Row)) (result : Option Asked) → IsContradiction found → IfSome result IsMistake → IfSome result (AsksNamed found)
 mistake_named found None two is = tt

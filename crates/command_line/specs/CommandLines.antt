@@ -70,6 +70,16 @@ wait =
       defaults = codes "0" ∷ [];
     }
 
+-- `--max-bytes n`: a number of bytes up to 1 GiB, or 64 MiB where it isn't there
+abbrev pub max_bytes : Rule
+max_bytes =
+    record (new_rule (codes "max-bytes")) {
+      long = Some (codes "max-bytes");
+      value_names = 1;
+      parser = Some (Unsigned 1 1073741824);
+      defaults = codes "67108864" ∷ [];
+    }
+
 -- each can be asked to print JSON, and to wait for a file that is in use
 abbrev pub on_folder : Text → App
 on_folder name = with_rule (with_rule (with_rule (new_app name) folder) (flag (codes "json"))) wait
@@ -86,7 +96,9 @@ files = record (required (codes "file")) { action = Some Append }
 
 abbrev pub capture : App
 capture =
-    with_rule (with_rule (with_rule (with_rule (on_folder (codes "capture")) (required (codes "site"))) files) (flag (codes "lines"))) (flag (codes "each"))
+    with_rule
+    (with_rule (with_rule (with_rule (with_rule (on_folder (codes "capture")) (required (codes "site"))) files) (flag (codes "lines"))) (flag (codes "each")))
+    max_bytes
 
 -- one EPC or more
 abbrev pub epcs : Rule
@@ -98,8 +110,10 @@ with_spellings a = with_rule (with_rule a (flag (codes "key"))) (flag (codes "sc
 
 abbrev pub start : App
 start =
-    with_spellings
-    (with_rule (with_rule (with_rule (with_rule (on_folder (codes "start")) (required (codes "site"))) epcs) (flag (codes "from"))) (flag (codes "dry-run")))
+    with_rule
+    (with_spellings
+    (with_rule (with_rule (with_rule (with_rule (on_folder (codes "start")) (required (codes "site"))) epcs) (flag (codes "from"))) (flag (codes "dry-run"))))
+    max_bytes
 
 -- `--turns n`: a number from 1 to 1,000,000, or 2,000 where it isn't there
 abbrev pub turns : Rule
@@ -148,7 +162,7 @@ capturing = record (new_rule (codes "site")) { long = Some (codes "site"); value
 
 -- it needs no folder, but a list of sites
 abbrev pub lint : App
-lint = with_rule (with_rule (with_rule (with_rule (new_app (codes "lint")) (required (codes "sites"))) files) (flag (codes "json"))) capturing
+lint = with_rule (with_rule (with_rule (with_rule (with_rule (new_app (codes "lint")) (required (codes "sites"))) files) (flag (codes "json"))) capturing) max_bytes
 
 -- `recall` itself, which has to have one of them
 abbrev pub needing : App → App
@@ -214,9 +228,13 @@ GivesForm rows forms.Json = IsSet rows (codes "json") × IsUnset rows (codes "cs
 GivesForm rows forms.Csv = IsUnset rows (codes "json") × IsSet rows (codes "csv") × IsUnset rows (codes "dot")
 GivesForm rows forms.Dot = IsUnset rows (codes "json") × IsUnset rows (codes "csv") × IsSet rows (codes "dot")
 
--- in this form, and a file that is in use is waited for so many seconds
+-- a document has at most so many bytes: those that are given, or 64 MiB where the command isn't asked
+abbrev pub GivesMost : List Row → ℕ → Type 0
+GivesMost rows most = GivesNumber rows (codes "max-bytes") most ⊎ ((first_of (codes "max-bytes") rows ≡ None) × (most ≡ 67108864))
+
+-- in this form; a file that is in use is waited for so many seconds, and a document has at most so many bytes
 abbrev pub GivesTerms : List Row → Terms → Type 0
-GivesTerms rows terms = GivesForm rows terms.form × GivesNumber rows (codes "wait") terms.wait
+GivesTerms rows terms = GivesForm rows terms.form × GivesNumber rows (codes "wait") terms.wait × GivesMost rows terms.most
 
 -- two forms are asked for
 abbrev pub AsksTwoForms : List Row → Type 0
@@ -319,6 +337,7 @@ pub record IsLint (asked : LintFiles) (rows : List Row) : Type 0 where
   pub list : Gives rows (codes "sites") asked.list.now
   pub site : option_map (λ t. t.now) asked.site ≡ first_of (codes "site") rows
   pub files : all_of (codes "file") rows ≡ Some (map (λ path. path.now) asked.paths.items)
+  pub most : GivesMost rows asked.most
   pub form : GivesForm rows asked.form
 
 -- what `lint` with these arguments asks for

@@ -136,11 +136,13 @@ module _ {F K W : Type 0} (does : F → FileCall K → F → Type 0) (shown : K 
       Led does old new
       (BatchFails shown stored (InputLine contents batch.terms.form (task_of batch.kind)) batch.folder.now batch.site.now batch.kind (words_of batch) may before lines fault)
 
-module _ {F K W : Type 0} (does : F → FileCall K → F → Type 0) (waits : F → ℕ → F → Type 0) (shown : K → Option Record) (may : K → Record → Type 0) (stored : K → Type 0) (contents : W → Option (List ℕ)) where
+module _ {F K W : Type 0} (does : F → FileCall K → F → Type 0) (waits limits : F → ℕ → F → Type 0) (shown : K → Option Record) (may : K → Record → Type 0) (stored : K → Type 0) (contents : W → Option (List ℕ)) where
   -- and then what they came to, or the fault was reported
   pub record TellsBatch (batch : Batch) (old new : F) (before after : W) (status : ℕ) : Type 0 where
+    pub first : F
+    pub waited : waits old batch.terms.wait first
     pub mid : F
-    pub waited : waits old batch.terms.wait mid
+    pub limited : limits first batch.terms.most mid
     pub lines : W
     pub came : Result BatchOutput Fault
     pub taken : TakesBatch does shown may stored contents batch mid new before lines came
@@ -155,23 +157,29 @@ module _ {F K W : Type 0} (does : F → FileCall K → F → Type 0) (contents :
       (Lints (LintLine contents asked.form) asked.list.now (option_map (λ t. t.now) asked.site) (map (λ path. path.now) asked.paths.items) before lines output)
   LintsFiles asked old new before lines (Err fault) = Led does old new (LintFails fault)
 
+module _ {F K W : Type 0} (does : F → FileCall K → F → Type 0) (limits : F → ℕ → F → Type 0) (contents : W → Option (List ℕ)) where
   -- and then the totals, or the fault was reported
   pub record TellsLint (asked : LintFiles) (old new : F) (before after : W) (status : ℕ) : Type 0 where
+    pub mid : F
+    pub limited : limits old asked.most mid
     pub lines : W
     pub came : Result LintOutput Fault
-    pub looked : LintsFiles asked old new before lines came
+    pub looked : LintsFiles does contents asked mid new before lines came
     pub ends : IfOk came (λ output. LintEnds asked.form output.sites output.came (contents lines) (contents after) status)
     pub fails : IfErr came (λ fault. (after ≡ lines) × (status ≡ 3))
 
-module _ {F K G W : Type 0} (does : F → FileCall K → F → Type 0) (waits : F → ℕ → F → Type 0) (knows : F → List ℕ → List ℕ → Type 0) (shown : K → Option Record) (failed : K → ℕ) (may : K → Record → Type 0) (reopens : K → Result K (Unopened K) → Type 0) (gives_up : G → ℕ → ℕ → Type 0) (stored : K → Type 0) (contents : W → Option (List ℕ)) where
+module _ {F K G W : Type 0} (does : F → FileCall K → F → Type 0) (waits limits : F → ℕ → F → Type 0) (knows : F → List ℕ → List ℕ → Type 0) (shown : K → Option Record) (failed : K → ℕ) (may : K → Record → Type 0) (reopens : K → Result K (Unopened K) → Type 0) (gives_up : G → ℕ → ℕ → Type 0) (stored : K → Type 0) (contents : W → Option (List ℕ)) where
   -- A command on files was asked for, and what it came to was written in the form that was asked for: an output, which is that of
-  -- these calls of the files; or a fault, which is. Files that are in use were waited for as long as was asked for.
+  -- these calls of the files; or a fault, which is. Files that are in use were waited for as long as
+  -- was asked for, and documents were as long as was asked for at most.
   pub record DoesFiles (words : List (List ℕ)) (old new : F) (before after : Streams W) (status : ℕ) : Type 0 where
     pub command : FileCommand
     pub terms : Terms
     pub asked : AsksFiles words command terms
+    pub first : F
+    pub waited : waits old terms.wait first
     pub mid : F
-    pub waited : waits old terms.wait mid
+    pub limited : limits first terms.most mid
     pub came : Result Output Fault
     pub led : IfOk came (λ output. Led does mid new (LeadsTo (knows new) shown failed may stored command output))
     pub broke : IfErr came (λ fault. Led does mid new (FailsBy shown failed may reopens gives_up stored command fault))
@@ -183,14 +191,14 @@ module _ {F K G W : Type 0} (does : F → FileCall K → F → Type 0) (waits : 
     pub batch : Batch
     pub asked : AsksBatch words batch
     pub unread : Keeps before.input after.input
-    pub ends : TellsBatch does waits shown may stored contents batch old new before.output after.output status
+    pub ends : TellsBatch does waits limits shown may stored contents batch old new before.output after.output status
 
   -- documents were asked to be looked through
   pub record DoesLint (words : List (List ℕ)) (old new : F) (before after : Streams W) (status : ℕ) : Type 0 where
     pub files : LintFiles
     pub asked : AsksLint words files
     pub unread : Keeps before.input after.input
-    pub ends : TellsLint does contents files old new before.output after.output status
+    pub ends : TellsLint does limits contents files old new before.output after.output status
 
   -- how a command line ends, from old files to new ones
   abbrev pub Ends : List (String Global) → F → F → Streams W → Streams W → ℕ → Type 0

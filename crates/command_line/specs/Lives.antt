@@ -58,7 +58,7 @@ module _ {K : Type 0} (shown : K → Option Record) (may : K → Record → Type
       (sites : List Site) (old new : List Standing) → length old ≡ length sites
       → FilesAreContinued sites old calls → FilesAreLeft old new calls → ActTogether old new
 
-  -- from old files on, once they were told how long to wait, such calls led to new ones
+  -- from old files on, once they were told how long to wait and how long a document may be, such calls led to new ones
   abbrev pub LeadByActs : {F : Type 0} → (F → FileCall K → F → Type 0) → F → F → Type 0
   LeadByActs {F} does old new = (mid : F) × Led does mid new AreActsOfSites
 

@@ -6,6 +6,7 @@ ghost use Rattle.command_line.specs.Ends.{BatchEnds, InputLine, TakesBatch, Tell
 
 use crate::command_lines::Batch;
 use crate::commands::{fault, tell_output};
+use crate::limits::LimitsDocuments;
 use crate::sinks::InputLines;
 use folder_commands::{BatchCame, BatchOutput, take_inputs, task_of};
 use keeper_core::SiteKeeper;
@@ -17,17 +18,18 @@ use std::io::Write;
 
 /// Captures several documents, or starts several recalls, each of which is answered once it is kept, and returns the
 /// status to end with.
-pub(crate) fn take_batch<K: SiteKeeper, F: Files<K>, W: Write, E: Write>(
+pub(crate) fn take_batch<K: SiteKeeper, F: Files<K> + LimitsDocuments, W: Write, E: Write>(
     alloc: Global,
     files: &mut F,
     batch: &Batch<'_>,
     output: &mut W,
     errors: &mut E,
 ) -> u8
-    ensures { TellsBatch F.does F.waits K.shown K.may K.stored W.contents batch.now files.old
-        files.new output.old output.new result }
+    ensures { TellsBatch F.does F.waits F.limits K.shown K.may K.stored W.contents batch.now
+        files.old files.new output.old output.new result }
 {
     files.wait_for(batch.terms.wait);
+    files.limit_to(batch.terms.most);
     match take_all(alloc, files, batch, output) {
         Ok(told) => tell_batch(alloc, files, batch, told, output, errors),
         Err(cause) => fault(alloc, batch.terms.form, files, cause, errors),

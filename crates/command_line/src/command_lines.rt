@@ -2,7 +2,7 @@
 
 ghost use Rattle.std.specs.Prelude.{◌≡◌, ◌↔◌, false, IfNone, IfOk, IfSome, IsTrue, codes, length};
 ghost use Rattle.clap.specs.Words.{found_of, kind_of, rows_of, subcommand_rows_of};
-ghost use Rattle.command_line.specs.CommandLines.{texts_of, AsksDryBatch, AsksFor, AsksLinesAndEvents, AsksNamed, AsksOf, AsksTwoForms, AsksTwoSpellings, AsksUntoldEvents, Gives, GivesDocuments, GivesForm, GivesItem, GivesNumber, GivesOrNone, GivesSpelling, GivesTerms, GivesWays, IsCapture, IsCommand, IsMistake, IsSet, IsStart, IsToldAs, epcs_kind, has_many};
+ghost use Rattle.command_line.specs.CommandLines.{texts_of, AsksDryBatch, AsksFor, AsksLinesAndEvents, AsksNamed, AsksOf, AsksTwoForms, AsksTwoSpellings, AsksUntoldEvents, Gives, GivesDocuments, GivesForm, GivesItem, GivesMost, GivesNumber, GivesOrNone, GivesSpelling, GivesTerms, GivesWays, IsCapture, IsCommand, IsMistake, IsSet, IsStart, IsToldAs, epcs_kind, has_many};
 
 use crate::grammar::recall;
 use crate::helps;
@@ -39,6 +39,8 @@ pub(crate) struct Terms {
     pub(crate) form: Form,
     /// For how many seconds it waits for a site's file that another program has open.
     pub(crate) wait: u64,
+    /// How many bytes a document, or a line of a file of lines, has at most.
+    pub(crate) most: u64,
 }
 
 /// What a site of a folder does one after another: the documents that it captures, or the items whose recall it starts,
@@ -152,7 +154,8 @@ fn named<'a>(alloc: Global, matches: &ArgMatches<'a>) -> Option<Asked<'a>>
         lint_command(alloc, given, form)
     } else {
         let wait = number(given, "wait")?;
-        on_folder(alloc, name, given, Terms { form, wait })
+        let most = most_of(given)?;
+        on_folder(alloc, name, given, Terms { form, wait, most })
     }
 }
 
@@ -479,6 +482,16 @@ fn number(given: &ArgMatches<'_>, name: &str) -> Option<u64>
     ensures { IfSome result (λ n. GivesNumber (rows_of (found_of given.now)) name.now n) }
 {
     given.get_one::<u64>(name)
+}
+
+/// How many bytes a document has at most: those that are given, or 64 MiB for a command that isn't asked.
+pub(crate) fn most_of(given: &ArgMatches<'_>) -> Option<u64>
+    ensures { IfSome result (GivesMost (rows_of (found_of given.now))) }
+{
+    match given.get_str("max-bytes") {
+        Some(_) => number(given, "max-bytes"),
+        None => Some(67_108_864),
+    }
 }
 
 /// What an error of `clap` is reported as. Help and the version that were asked for are among its errors.

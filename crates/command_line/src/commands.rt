@@ -7,6 +7,7 @@ ghost use Rattle.command_line.specs.Lives.{LeadByActs};
 use crate::batch_commands::take_batch;
 use crate::command_lines::{self, Asked};
 use crate::folder_tasks::do_command;
+use crate::limits::LimitsDocuments;
 use crate::lint_commands::lint_files;
 use crate::sinks::print;
 use crate::statuses;
@@ -39,7 +40,7 @@ use std::time::Clock;
 pub fn run_command<
     R: Threads + Wait + Clock + Sync,
     K: SiteKeeper + Send,
-    F: Files<K>,
+    F: Files<K> + LimitsDocuments,
     G: Gate + Copy + Send,
     I: Read,
     W: Write,
@@ -55,9 +56,9 @@ pub fn run_command<
     output: &mut W,
     errors: &mut E,
 ) -> u8
-    ensures ends { Ends F.does F.waits F.knows K.shown K.failed K.may K.reopens G.gives_up K.stored
-        W.contents words.now files.old files.new (streams I.remaining input.old output.old)
-        (streams I.remaining input.new output.new) result }
+    ensures ends { Ends F.does F.waits F.limits F.knows K.shown K.failed K.may K.reopens G.gives_up
+        K.stored W.contents words.now files.old files.new
+        (streams I.remaining input.old output.old) (streams I.remaining input.new output.new) result }
     ensures sim { SimRuns W.contents files.old files.new
         (streams I.remaining input.old output.old) (streams I.remaining input.new output.new)
         result words.now }
@@ -67,6 +68,7 @@ pub fn run_command<
         Ok(Asked::Sim) => sim(alloc, keys, input, output, errors),
         Ok(Asked::Files(command, terms)) => {
             files.wait_for(terms.wait);
+            files.limit_to(terms.most);
             let came = do_command(rt, alloc, keys, files, gate, &command);
             tell(alloc, terms.form, files, &came, output, errors)
         }

@@ -2,7 +2,7 @@
 
 ghost use Rattle.std.specs.Prelude.{◌≡◌, false, IfOk, codes};
 ghost use Rattle.clap.specs.Words.{app_of, new_rule, rule_of};
-ghost use Rattle.command_line.specs.CommandLines.{audit, capture, capturing, epcs, files, flag, folder, init, items, lint, on_folder, recall, report, required, run, sim, start, status, trace, turns, wait};
+ghost use Rattle.command_line.specs.CommandLines.{audit, capture, capturing, epcs, files, flag, folder, init, items, lint, max_bytes, on_folder, recall, report, required, run, sim, start, status, trace, turns, wait};
 
 use crate::helps;
 use clap::builder::ValueParser;
@@ -202,7 +202,8 @@ fn capture<'a>(alloc: Global) -> Result<Command<'a>, AllocError>
     .arg(required(alloc, "site", "The site that captures them"))?
     .arg(files(alloc))?
     .arg(lines(alloc))?
-    .arg(each(alloc))
+    .arg(each(alloc))?
+    .arg(max_bytes(alloc))
 }
 
 /// The files of the documents, one at least.
@@ -216,6 +217,19 @@ fn files<'a>(alloc: Global) -> Arg<'a>
         "The files of the documents; `-` is the standard input",
     )
     .action(ArgAction::Append)
+}
+
+/// How many bytes a document, or a line, has at most: up to 1 GiB.
+fn max_bytes<'a>(alloc: Global) -> Arg<'a>
+    ensures rule { rule_of result ≡ max_bytes }
+    ensures local { result.global ≡ false }
+{
+    Arg::new(alloc, "max-bytes")
+        .long("max-bytes")
+        .value_name("n")
+        .value_parser(value_parser!(u64).range(1..=1_073_741_824))
+        .default_value("67108864")
+        .help("Refuse a document, or a line, that is longer, 1 to 1073741824")
 }
 
 /// Whether each line is a document.
@@ -251,7 +265,8 @@ fn start<'a>(alloc: Global) -> Result<Command<'a>, AllocError>
             "Tell what the start would do, and do nothing",
         ))?
         .arg(key(alloc))?
-        .arg(scan(alloc))
+        .arg(scan(alloc))?
+        .arg(max_bytes(alloc))
 }
 
 /// The EPCs of the items, one at least.
@@ -355,7 +370,8 @@ fn lint<'a>(alloc: Global) -> Result<Command<'a>, AllocError>
         .arg(required(alloc, "sites", "The file that lists the sites"))?
         .arg(files(alloc))?
         .arg(json(alloc))?
-        .arg(capturing(alloc))
+        .arg(capturing(alloc))?
+        .arg(max_bytes(alloc))
 }
 
 /// The site that is to capture the documents.

@@ -8,9 +8,11 @@ mod folder_tasks;
 mod grammar;
 mod helps;
 pub mod laws;
+mod limits;
 mod lint_commands;
 mod sinks;
 mod statuses;
 
 pub use commands::run_command;
+pub use limits::LimitsDocuments;
 pub use statuses::{BAD_COMMAND_LINE, FAULT};

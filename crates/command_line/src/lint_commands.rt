@@ -7,8 +7,9 @@ ghost use Rattle.outcome_forms.specs.Writing.{WritesLines};
 ghost use Rattle.command_line.specs.CommandLines.{GivesForm, IsLintCommand};
 ghost use Rattle.command_line.specs.Ends.{LintEnds, LintsFiles, TellsLint};
 
-use crate::command_lines::{Asked, argument, copied};
+use crate::command_lines::{Asked, argument, copied, most_of};
 use crate::commands::{fault, tell_output};
+use crate::limits::LimitsDocuments;
 use crate::sinks::{LintLines, print};
 use clap::ArgMatches;
 use document_lint::LintTotals;
@@ -28,6 +29,8 @@ pub(crate) struct LintFiles<'a> {
     /// The site that is to capture them, if it is named.
     pub(crate) site: Option<&'a str>,
     pub(crate) paths: Vec<&'a str>,
+    /// How many bytes a document has at most.
+    pub(crate) most: u64,
     /// How it is printed.
     pub(crate) form: Form,
 }
@@ -43,27 +46,30 @@ pub(crate) fn lint_command<'a>(
 {
     let list = argument(given, "sites")?;
     let site = given.get_str("site");
+    let most = most_of(given)?;
     let paths = given.get_strs("file")?;
     let paths = copied(alloc, paths).ok()?;
     Some(Asked::Lint(LintFiles {
         list,
         site,
         paths,
+        most,
         form,
     }))
 }
 
 /// Looks through documents, and returns the status to end with.
-pub(crate) fn lint_files<K: SiteKeeper, F: Files<K>, W: Write, E: Write>(
+pub(crate) fn lint_files<K: SiteKeeper, F: Files<K> + LimitsDocuments, W: Write, E: Write>(
     alloc: Global,
     files: &mut F,
     asked: &LintFiles<'_>,
     output: &mut W,
     errors: &mut E,
 ) -> u8
-    ensures { TellsLint F.does W.contents asked.now files.old files.new output.old output.new
+    ensures { TellsLint F.does F.limits W.contents asked.now files.old files.new output.old output.new
         result }
 {
+    files.limit_to(asked.most);
     match look(alloc, files, asked, output) {
         Ok(told) => tell_lint(alloc, files, asked.form, told, output, errors),
         Err(cause) => fault(alloc, asked.form, files, cause, errors),

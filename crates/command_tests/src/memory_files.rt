@@ -1,5 +1,6 @@
 //! Files and sites in memory, over which the commands on files run.
 
+use command_line::LimitsDocuments;
 use keeper_core::{Keep, MemoryKeeper, SiteKeeper};
 use recall_outcomes::{Failure, Fault};
 use site_core::SiteState;
@@ -53,6 +54,14 @@ impl MemoryFiles {
             keeper.arm(Keep::Old);
         }
     }
+}
+
+impl LimitsDocuments for MemoryFiles {
+    ghost use Rattle.std.specs.Prelude.{⊤};
+
+    ghost limits = { λ _ _ _. ⊤ };
+
+    fn limit_to(&mut self, _: u64) {}
 }
 
 impl Files<MemoryKeeper> for MemoryFiles {

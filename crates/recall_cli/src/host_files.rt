@@ -12,6 +12,7 @@ use crate::stores::{
     FileConnection, FileSite, cause_of_step, close, close_connection, unfound, unmade, unopened,
 };
 use crate::whole_files;
+use command_line::LimitsDocuments;
 use keeper_core::SiteKeeper;
 use outcome_forms::failure_line;
 use recall_outcomes::{Cause, Failure, Fault};
@@ -34,6 +35,8 @@ pub(crate) struct HostFiles<'a> {
     keys: RandomState,
     /// For how many seconds a site's file is waited for that is in use.
     seconds: u64,
+    /// How many bytes a document, or a line of a file of lines, has at most.
+    most: u64,
     /// Whether the command has read its list of sites, which it reads before any other file.
     has_list: bool,
     /// The file of which lines are read, until its end.
@@ -53,6 +56,7 @@ impl Drop for HostFiles<'_> {
             runtime: _,
             keys: _,
             seconds: _,
+            most: _,
             has_list: _,
             lines: _,
             opened: _,
@@ -69,6 +73,7 @@ impl<'a> HostFiles<'a> {
             runtime,
             keys,
             seconds: 0,
+            most: whole_files::LONGEST,
             has_list: false,
             lines: None,
             opened: VecDeque::new(runtime.alloc()),
@@ -105,7 +110,7 @@ impl<'a> HostFiles<'a> {
     /// of sites, and all others are documents.
     fn bytes(&mut self, path: &str) -> Result<Vec<u8>, Trouble> {
         if self.has_list {
-            return whole_files::read_document(self.runtime, path);
+            return whole_files::read_document(self.runtime, path, self.most);
         }
         self.has_list = true;
         whole_files::read_list(self.runtime, path)
@@ -146,7 +151,7 @@ impl<'a> HostFiles<'a> {
             Some(file) if file.is_of(path) => file,
             _ => LineFile::open(self.runtime, path)?,
         };
-        let line = file.next_line(alloc)?;
+        let line = file.next_line(alloc, self.most)?;
         if line.is_some() {
             self.lines = Some(file);
         }
@@ -251,6 +256,16 @@ impl<'a> HostFiles<'a> {
                 Err(trouble)
             }
         }
+    }
+}
+
+impl LimitsDocuments for HostFiles<'_> {
+    ghost use Rattle.std.specs.Prelude.{⊤};
+
+    ghost limits = { λ _ _ _. ⊤ };
+
+    fn limit_to(&mut self, bytes: u64) {
+        self.most = bytes;
     }
 }
 

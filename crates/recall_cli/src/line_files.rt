@@ -1,9 +1,9 @@
 //! Files that are read line by line.
 
-use crate::whole_files::{LONGEST_DOCUMENT, TOO_LONG};
+use crate::whole_files::too_long;
 use std::alloc::Global;
 use std::fs::File;
-use std::io::{self, BufRead, BufReader, Error, ErrorKind, Read, Stdin};
+use std::io::{self, BufRead, BufReader, Read, Stdin};
 
 /// The path that stands for the standard input.
 pub(crate) const INPUT: &str = "-";
@@ -42,19 +42,22 @@ impl LineFile {
         self.path.as_str() == path
     }
 
-    /// The next line, without its LF, or `None` at the end of the file. A line may be as long as a document.
-    pub(crate) fn next_line(&mut self, alloc: Global) -> io::Result<Option<Vec<u8>>> {
+    /// The next line, without its LF, or `None` at the end of the file. A line has at most so many bytes, as a document,
+    /// its LF not counted.
+    pub(crate) fn next_line(&mut self, alloc: Global, most: u64) -> io::Result<Option<Vec<u8>>> {
         let mut line = Vec::new(alloc);
-        let most = LONGEST_DOCUMENT.saturating_add(1);
+        let with_end = most.saturating_add(1);
         let count = match &mut self.source {
-            Source::Input(reader) => reader.by_ref().take(most).read_until(b'\n', &mut line)?,
-            Source::File(reader) => reader.by_ref().take(most).read_until(b'\n', &mut line)?,
+            Source::Input(reader) => {
+                reader.by_ref().take(with_end).read_until(b'\n', &mut line)?
+            }
+            Source::File(reader) => { reader.by_ref().take(with_end).read_until(b'\n', &mut line)? }
         };
         if count == 0 {
             return Ok(None);
         }
-        if count as u64 == most && line.last() != Some(&b'\n') {
-            return Err(Error::new(ErrorKind::FileTooLarge, TOO_LONG));
+        if count as u64 == with_end && line.last() != Some(&b'\n') {
+            return Err(too_long(alloc, most));
         }
         if line.last() == Some(&b'\n') {
             line.pop();

@@ -7,44 +7,53 @@ use std::alloc::Global;
 use std::fs::{self, File, TryLockError};
 use std::io::{self, Error, ErrorKind, Read, Write};
 
-/// How many bytes a document, or a line of a file of lines, has at most: 1 GiB.
-pub(crate) const LONGEST_DOCUMENT: u64 = 1 << 30;
+/// How many bytes a document, or a line of a file of lines, has at most, whatever a command is told: 1 GiB.
+pub(crate) const LONGEST: u64 = 1 << 30;
 
-/// How many bytes a list of sites has at most: 1 MiB.
-const LONGEST_LIST: u64 = 1 << 20;
+/// How many bytes a MiB is.
+const MEBIBYTE: u64 = 1 << 20;
 
-/// What is told of a document, or of a line, that is longer.
-pub(crate) const TOO_LONG: &str = "longer than 1 GiB";
+/// How many bytes a list of sites has at most.
+const LONGEST_LIST: u64 = MEBIBYTE;
 
-/// What is told of a list that is longer.
-const LIST_TOO_LONG: &str = "longer than 1 MiB";
+/// The error of a document, a line or a list of sites that is longer than so many bytes.
+pub(crate) fn too_long(alloc: Global, most: u64) -> Error {
+    let told = if most % MEBIBYTE == 0 {
+        let count = most / MEBIBYTE;
+        format!(in alloc; "longer than {count} MiB")
+    } else {
+        format!(in alloc; "longer than {most} bytes")
+    };
+    match told {
+        Ok(told) => Error::new(ErrorKind::FileTooLarge, told.as_str()),
+        Err(_) => Error::from(ErrorKind::OutOfMemory),
+    }
+}
 
 /// A list of sites, which is a regular file or the standard input. Anything else might have no end.
 pub(crate) fn read_list(runtime: &HostRuntime, path: &str) -> Result<Vec<u8>, Trouble> {
     let alloc = runtime.alloc();
     if path == INPUT {
-        return told(
-            alloc,
-            read_at_most(alloc, runtime.stdin(), LONGEST_LIST, LIST_TOO_LONG),
-        );
+        return told(alloc, read_at_most(alloc, runtime.stdin(), LONGEST_LIST));
     }
     match fs::metadata(runtime, path) {
         Ok(found) if !found.is_file() => Err(Trouble::new(Fault::Read, Cause::NotAFile)),
-        Ok(_) => told(alloc, read_file(runtime, path, LONGEST_LIST, LIST_TOO_LONG)),
+        Ok(_) => told(alloc, read_file(runtime, path, LONGEST_LIST)),
         Err(error) => Err(Trouble::of_error(alloc, &error, Fault::Read)),
     }
 }
 
-/// A document, which may also come from a pipe, and is read to its end.
-pub(crate) fn read_document(runtime: &HostRuntime, path: &str) -> Result<Vec<u8>, Trouble> {
+/// A document of at most so many bytes, which may also come from a pipe, and is read to its end.
+pub(crate) fn read_document(
+    runtime: &HostRuntime,
+    path: &str,
+    most: u64,
+) -> Result<Vec<u8>, Trouble> {
     let alloc = runtime.alloc();
     if path == INPUT {
-        return told(
-            alloc,
-            read_at_most(alloc, runtime.stdin(), LONGEST_DOCUMENT, TOO_LONG),
-        );
+        return told(alloc, read_at_most(alloc, runtime.stdin(), most));
     }
-    told(alloc, read_file(runtime, path, LONGEST_DOCUMENT, TOO_LONG))
+    told(alloc, read_file(runtime, path, most))
 }
 
 fn told(alloc: Global, bytes: io::Result<Vec<u8>>) -> Result<Vec<u8>, Trouble> {
@@ -55,25 +64,22 @@ fn told(alloc: Global, bytes: io::Result<Vec<u8>>) -> Result<Vec<u8>, Trouble> {
 }
 
 /// The bytes of a file. One that says that it is longer isn't read.
-fn read_file(runtime: &HostRuntime, path: &str, most: u64, too_long: &str) -> io::Result<Vec<u8>> {
+fn read_file(runtime: &HostRuntime, path: &str, most: u64) -> io::Result<Vec<u8>> {
+    let alloc = runtime.alloc();
     let file = File::open(runtime, path)?;
     let found = file.metadata()?;
     if found.is_file() && found.len() > most {
-        return Err(Error::new(ErrorKind::FileTooLarge, too_long));
+        return Err(too_long(alloc, most));
     }
-    read_at_most(runtime.alloc(), file, most, too_long)
+    read_at_most(alloc, file, most)
 }
 
-fn read_at_most<R: Read + Drop>(
-    alloc: Global,
-    source: R,
-    most: u64,
-    too_long: &str,
-) -> io::Result<Vec<u8>> {
+/// What is read to its end, of which no more than a byte too many is kept.
+fn read_at_most<R: Read + Drop>(alloc: Global, source: R, most: u64) -> io::Result<Vec<u8>> {
     let mut bytes = Vec::new(alloc);
     source.take(most.saturating_add(1)).read_to_end(&mut bytes)?;
     if bytes.len() as u64 > most {
-        return Err(Error::new(ErrorKind::FileTooLarge, too_long));
+        return Err(too_long(alloc, most));
     }
     Ok(bytes)
 }

@@ -16,15 +16,15 @@ returns-in-Ok-Files-clause-sim g c = λ name e. absurd (sim_is_no_files _ name _
 
 pub returns-in-Ok-Mistake-clause-ends : goal.returns-in-Ok-Mistake-clause-ends
 returns-in-Ok-Mistake-clause-ends g c =
-    ends_mistaken g.F.Files.does g.F.Files.waits g.F.Files.knows g.K.SiteKeeper.shown g.K.SiteKeeper.failed g.K.SiteKeeper.may g.K.SiteKeeper.reopens g.G.Gate.gives_up g.K.SiteKeeper.stored
+    ends_mistaken g.F.Files.does g.F.Files.waits g.F.LimitsDocuments.limits g.F.Files.knows g.K.SiteKeeper.shown g.K.SiteKeeper.failed g.K.SiteKeeper.may g.K.SiteKeeper.reopens g.G.Gate.gives_up g.K.SiteKeeper.stored
     g.W.Write.contents
     c.args.words.now _ _ _ _ (rw c.in-Ok-Mistake.field-0-is at c.in-Ok-Mistake.ensures) refl (search rules) (search rules)
 
 pub returns-in-Ok-Files-clause-ends : goal.returns-in-Ok-Files-clause-ends
 returns-in-Ok-Files-clause-ends g c =
-    ends_files g.F.Files.does g.F.Files.waits g.F.Files.knows g.K.SiteKeeper.shown g.K.SiteKeeper.failed g.K.SiteKeeper.may g.K.SiteKeeper.reopens g.G.Gate.gives_up g.K.SiteKeeper.stored
+    ends_files g.F.Files.does g.F.Files.waits g.F.LimitsDocuments.limits g.F.Files.knows g.K.SiteKeeper.shown g.K.SiteKeeper.failed g.K.SiteKeeper.may g.K.SiteKeeper.reopens g.G.Gate.gives_up g.K.SiteKeeper.stored
     g.W.Write.contents
-    c.args.words.now _ _ _ _ _ _ _ _ _ (rw c.in-Ok-Files.field-0-is at c.in-Ok-Files.ensures) c.wait_for.ensures c.do_command-came.ensures.led c.do_command-came.ensures.failed (Keeps-refl _)
+    c.args.words.now _ _ _ _ _ _ _ _ _ _ (rw c.in-Ok-Files.field-0-is at c.in-Ok-Files.ensures) c.wait_for.ensures c.limit_to.ensures c.do_command-came.ensures.led c.do_command-came.ensures.failed (Keeps-refl _)
     c.tell.ensures
 
 pub returns-in-Ok-Batch-clause-sim : goal.returns-in-Ok-Batch-clause-sim
@@ -32,7 +32,7 @@ returns-in-Ok-Batch-clause-sim g c = λ name e. absurd (sim_is_no_batch _ name _
 
 pub returns-in-Ok-Batch-clause-ends : goal.returns-in-Ok-Batch-clause-ends
 returns-in-Ok-Batch-clause-ends g c =
-    ends_batch g.F.Files.does g.F.Files.waits g.F.Files.knows g.K.SiteKeeper.shown g.K.SiteKeeper.failed g.K.SiteKeeper.may g.K.SiteKeeper.reopens g.G.Gate.gives_up g.K.SiteKeeper.stored
+    ends_batch g.F.Files.does g.F.Files.waits g.F.LimitsDocuments.limits g.F.Files.knows g.K.SiteKeeper.shown g.K.SiteKeeper.failed g.K.SiteKeeper.may g.K.SiteKeeper.reopens g.G.Gate.gives_up g.K.SiteKeeper.stored
     g.W.Write.contents
     c.args.words.now _ _ _ _ _ _ (rw c.in-Ok-Batch.field-0-is at c.in-Ok-Batch.ensures) (search rules) c.take_batch.ensures
 
@@ -41,44 +41,44 @@ returns-in-Ok-Lint-clause-sim g c = λ name e. absurd (sim_is_no_lint _ name _ (
 
 pub returns-in-Ok-Lint-clause-ends : goal.returns-in-Ok-Lint-clause-ends
 returns-in-Ok-Lint-clause-ends g c =
-    ends_lint g.F.Files.does g.F.Files.waits g.F.Files.knows g.K.SiteKeeper.shown g.K.SiteKeeper.failed g.K.SiteKeeper.may g.K.SiteKeeper.reopens g.G.Gate.gives_up g.K.SiteKeeper.stored
+    ends_lint g.F.Files.does g.F.Files.waits g.F.LimitsDocuments.limits g.F.Files.knows g.K.SiteKeeper.shown g.K.SiteKeeper.failed g.K.SiteKeeper.may g.K.SiteKeeper.reopens g.G.Gate.gives_up g.K.SiteKeeper.stored
     g.W.Write.contents
     c.args.words.now _ _ _ _ _ _ (rw c.in-Ok-Lint.field-0-is at c.in-Ok-Lint.ensures) (search rules) c.lint_files.ensures
 
 pub returns-in-Ok-Files-clause-acts : goal.returns-in-Ok-Files-clause-acts
 returns-in-Ok-Files-clause-acts g c =
-    ends_acts g.F.Files.does g.F.Files.waits g.F.Files.knows g.K.SiteKeeper.shown g.K.SiteKeeper.failed g.K.SiteKeeper.may g.K.SiteKeeper.reopens g.G.Gate.gives_up g.K.SiteKeeper.stored
+    ends_acts g.F.Files.does g.F.Files.waits g.F.LimitsDocuments.limits g.F.Files.knows g.K.SiteKeeper.shown g.K.SiteKeeper.failed g.K.SiteKeeper.may g.K.SiteKeeper.reopens g.G.Gate.gives_up g.K.SiteKeeper.stored
     g.W.Write.contents g.K.SiteKeeper.may_be_opened
     c.args.words.now _ _ _ _ _ (returns-in-Ok-Files-clause-ends g c)
 
 pub returns-in-Ok-Batch-clause-acts : goal.returns-in-Ok-Batch-clause-acts
 returns-in-Ok-Batch-clause-acts g c =
-    ends_acts g.F.Files.does g.F.Files.waits g.F.Files.knows g.K.SiteKeeper.shown g.K.SiteKeeper.failed g.K.SiteKeeper.may g.K.SiteKeeper.reopens g.G.Gate.gives_up g.K.SiteKeeper.stored
+    ends_acts g.F.Files.does g.F.Files.waits g.F.LimitsDocuments.limits g.F.Files.knows g.K.SiteKeeper.shown g.K.SiteKeeper.failed g.K.SiteKeeper.may g.K.SiteKeeper.reopens g.G.Gate.gives_up g.K.SiteKeeper.stored
     g.W.Write.contents g.K.SiteKeeper.may_be_opened
     c.args.words.now _ _ _ _ _ (returns-in-Ok-Batch-clause-ends g c)
 
 pub returns-in-Ok-Lint-clause-acts : goal.returns-in-Ok-Lint-clause-acts
 returns-in-Ok-Lint-clause-acts g c =
-    ends_acts g.F.Files.does g.F.Files.waits g.F.Files.knows g.K.SiteKeeper.shown g.K.SiteKeeper.failed g.K.SiteKeeper.may g.K.SiteKeeper.reopens g.G.Gate.gives_up g.K.SiteKeeper.stored
+    ends_acts g.F.Files.does g.F.Files.waits g.F.LimitsDocuments.limits g.F.Files.knows g.K.SiteKeeper.shown g.K.SiteKeeper.failed g.K.SiteKeeper.may g.K.SiteKeeper.reopens g.G.Gate.gives_up g.K.SiteKeeper.stored
     g.W.Write.contents g.K.SiteKeeper.may_be_opened
     c.args.words.now _ _ _ _ _ (returns-in-Ok-Lint-clause-ends g c)
 
 pub returns-in-Ok-Mistake-clause-acts : goal.returns-in-Ok-Mistake-clause-acts
 returns-in-Ok-Mistake-clause-acts g c =
-    unasked g.F.Files.does g.F.Files.waits g.F.Files.knows g.K.SiteKeeper.shown g.K.SiteKeeper.failed g.K.SiteKeeper.may g.K.SiteKeeper.reopens g.G.Gate.gives_up g.K.SiteKeeper.stored
+    unasked g.F.Files.does g.F.Files.waits g.F.LimitsDocuments.limits g.F.Files.knows g.K.SiteKeeper.shown g.K.SiteKeeper.failed g.K.SiteKeeper.may g.K.SiteKeeper.reopens g.G.Gate.gives_up g.K.SiteKeeper.stored
     g.W.Write.contents g.K.SiteKeeper.may_be_opened _ _ refl
 
 pub returns-in-Ok-Sim-clause-acts : goal.returns-in-Ok-Sim-clause-acts
 returns-in-Ok-Sim-clause-acts g c =
-    unasked g.F.Files.does g.F.Files.waits g.F.Files.knows g.K.SiteKeeper.shown g.K.SiteKeeper.failed g.K.SiteKeeper.may g.K.SiteKeeper.reopens g.G.Gate.gives_up g.K.SiteKeeper.stored
+    unasked g.F.Files.does g.F.Files.waits g.F.LimitsDocuments.limits g.F.Files.knows g.K.SiteKeeper.shown g.K.SiteKeeper.failed g.K.SiteKeeper.may g.K.SiteKeeper.reopens g.G.Gate.gives_up g.K.SiteKeeper.stored
     g.W.Write.contents g.K.SiteKeeper.may_be_opened _ _ refl
 
 pub returns-in-Ok-Help-clause-acts : goal.returns-in-Ok-Help-clause-acts
 returns-in-Ok-Help-clause-acts g c =
-    unasked g.F.Files.does g.F.Files.waits g.F.Files.knows g.K.SiteKeeper.shown g.K.SiteKeeper.failed g.K.SiteKeeper.may g.K.SiteKeeper.reopens g.G.Gate.gives_up g.K.SiteKeeper.stored
+    unasked g.F.Files.does g.F.Files.waits g.F.LimitsDocuments.limits g.F.Files.knows g.K.SiteKeeper.shown g.K.SiteKeeper.failed g.K.SiteKeeper.may g.K.SiteKeeper.reopens g.G.Gate.gives_up g.K.SiteKeeper.stored
     g.W.Write.contents g.K.SiteKeeper.may_be_opened _ _ refl
 
 pub returns-in-Err-clause-acts : goal.returns-in-Err-clause-acts
 returns-in-Err-clause-acts g c =
-    unasked g.F.Files.does g.F.Files.waits g.F.Files.knows g.K.SiteKeeper.shown g.K.SiteKeeper.failed g.K.SiteKeeper.may g.K.SiteKeeper.reopens g.G.Gate.gives_up g.K.SiteKeeper.stored
+    unasked g.F.Files.does g.F.Files.waits g.F.LimitsDocuments.limits g.F.Files.knows g.K.SiteKeeper.shown g.K.SiteKeeper.failed g.K.SiteKeeper.may g.K.SiteKeeper.reopens g.G.Gate.gives_up g.K.SiteKeeper.stored
     g.W.Write.contents g.K.SiteKeeper.may_be_opened _ _ refl

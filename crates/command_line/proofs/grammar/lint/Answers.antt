@@ -10,4 +10,5 @@ returns c =
     let list = adds_rule _ _ _ _ _ c.in_ok-arg.ensures c.required.ensures.local named c.required.ensures.rule in
     let paths = adds_rule _ _ _ _ _ c.in_ok-arg-2.ensures c.files.ensures.local list c.files.ensures.rule in
     let json = adds_rule _ _ _ _ _ c.in_ok-arg-3.ensures c.json.ensures.local paths c.json.ensures.rule in
-    IfOk-weaker c.arg-4.result _ _ (λ command adds. adds_rule _ _ command _ _ adds c.capturing.ensures.local json c.capturing.ensures.rule) c.arg-4.ensures
+    let capturing = adds_rule _ _ _ _ _ c.in_ok-arg-4.ensures c.capturing.ensures.local json c.capturing.ensures.rule in
+    IfOk-weaker c.arg-5.result _ _ (λ command adds. adds_rule _ _ command _ _ adds c.max_bytes.ensures.local capturing c.max_bytes.ensures.rule) c.arg-5.ensures

@@ -9,4 +9,5 @@ returns c =
     let from = adds_rule _ _ _ _ _ c.in_ok-arg-3.ensures c.flag.ensures.local epcs c.flag.ensures.rule in
     let dry = adds_rule _ _ _ _ _ c.in_ok-arg-4.ensures c.flag-2.ensures.local from c.flag-2.ensures.rule in
     let key = adds_rule _ _ _ _ _ c.in_ok-arg-5.ensures c.key.ensures.local dry c.key.ensures.rule in
-    IfOk-weaker c.arg-6.result _ _ (λ command adds. adds_rule _ _ command _ _ adds c.scan.ensures.local key c.scan.ensures.rule) c.arg-6.ensures
+    let scan = adds_rule _ _ _ _ _ c.in_ok-arg-6.ensures c.scan.ensures.local key c.scan.ensures.rule in
+    IfOk-weaker c.arg-7.result _ _ (λ command adds. adds_rule _ _ command _ _ adds c.max_bytes.ensures.local scan c.max_bytes.ensures.rule) c.arg-7.ensures

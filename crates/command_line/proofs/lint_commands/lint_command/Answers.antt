@@ -12,5 +12,6 @@ returns c =
       list = c.in_ok-list.ensures;
       site = c.get_str-site.ensures ∙ first_value-rows (found_of c.args.given.now) (codes "site");
       files = paths ∙ ap (λ xs. Some (map (λ p. p.now) xs)) (sym copy);
+      most = c.in_ok-most.ensures;
       form = c.requires;
     }
