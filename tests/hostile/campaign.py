@@ -18,7 +18,7 @@ import time
 import chains
 import memory
 
-PARTS = ["covered", "documents", "long-line", "other-files", "rows", "streams", "places", "scripts", "folders", "init-races", "together", "limits", "damage", "calls", "power", "memory", "short", "soak", "worst"]
+PARTS = ["covered", "documents", "long-line", "other-files", "rows", "streams", "places", "scripts", "folders", "init-races", "together", "limits", "damage", "calls", "power", "memory", "growth", "short", "soak", "worst"]
 # Each needs so much of a minute, in seconds; those that aren't here have no part in it.
 SHARES = {"covered": 3, "documents": 5, "long-line": 2, "other-files": 3, "rows": 4, "streams": 3, "places": 3, "scripts": 8, "folders": 6, "init-races": 2, "together": 3, "limits": 3, "damage": 3, "calls": 5, "power": 5, "memory": 4, "short": 2}
 
@@ -70,7 +70,7 @@ def shims(work):
 
 
 def run_part(part, tally, setting, work, made, tools):
-    import calls, damage, folders, inputs, limits, power, scripts, soak, together, worst
+    import calls, damage, folders, growth, inputs, limits, power, scripts, soak, together, worst
 
     choose = lambda *names: list(chains.chosen(made, work, names))
     if part == "covered":
@@ -109,6 +109,8 @@ def run_part(part, tally, setting, work, made, tools):
         left = ["run", "run-json", "migrate-run", "help", "help-option", "version", "sim"]
         names = [it.name for it in chains.commands(made) if it.name not in left]
         memory.run(tally, setting, choose(*(names if setting.whole else setting.chance.sample(names, 2))), work, 400 if setting.whole else 4000)
+    elif part == "growth":
+        growth.run(tally, setting, work)
     elif part == "short":
         memory.shortened(tally, setting, choose(*(["init", "capture-many", "start-from", "run-two", "report-json", "migrate"] if setting.whole else ["capture-many"])), 24)
     elif part == "soak":
@@ -121,7 +123,7 @@ def needs(part, tools):
     """What keeps a part from being run, or None."""
     if part in ("calls", "power") and not has("strace"):
         return "strace isn't installed"
-    if part in ("memory", "short", "streams") and tools is None:
+    if part in ("memory", "growth", "short", "streams") and tools is None:
         return "there is no C compiler"
     return None
 
