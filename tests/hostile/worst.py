@@ -1,7 +1,7 @@
-"""The documents within the limits that take most memory and time: told, and not judged, but that each is answered.
-For docs/BENCHMARKS.md and
-SECURITY.md, which give the factor of memory."""
+"""The documents, scripts and folders within the limits that take most memory and time: told, and not judged, but that each is
+answered. For docs/BENCHMARKS.md, and for SECURITY.md, which gives the factor of memory."""
 import json
+import resource
 import shutil
 import subprocess
 import tempfile
@@ -11,9 +11,9 @@ from chains import RECALL, T, program
 
 
 def measured(words, stdin=b""):
-    """Status, seconds, and the greatest memory in kB, as it is seen every few milliseconds: what wait4 tells begins with the size of
-    this process."""
-    begun = time.monotonic()
+    """Status, seconds of a processor, and the greatest memory in kB, as it is seen every few milliseconds: what wait4 tells begins
+    with the size of this process."""
+    begun = resource.getrusage(resource.RUSAGE_CHILDREN)
     with tempfile.TemporaryFile() as text:
         text.write(stdin)
         text.seek(0)
@@ -26,7 +26,8 @@ def measured(words, stdin=b""):
         except OSError:
             pass
         time.sleep(0.003)
-    return p.returncode, time.monotonic() - begun, most
+    ended = resource.getrusage(resource.RUSAGE_CHILDREN)
+    return p.returncode, ended.ru_utime + ended.ru_stime - begun.ru_utime - begun.ru_stime, most
 
 
 def document(events):
@@ -53,6 +54,56 @@ def inputs():
     yield "a chain of 1,000 makes", document('{"type":"TransformationEvent",%s,"inputEPCList":["k%d"],"outputEPCList":["k%d"]}' % (T, n, n + 1) for n in range(1000))
 
 
+def ring(count, items):
+    """The lines of so many sites, of which each ships so many items to the next."""
+    for n in range(count):
+        yield f"site S{n} s{n}"
+    for n in range(count):
+        yield 'capture S%d {"type":"ObjectEvent",%s,"action":"OBSERVE","epcList":%s,"destinationList":[{"destination":"s%d"}]}' % (n, T, json.dumps([f"i{k}" for k in range(items)]), (n + 1) % count)
+
+
+def scripts():
+    """Scripts by name."""
+    yield "1,000 recalls that go round 16 sites", "\n".join([*ring(16, 1000), *(f"recall S0 i{k}" for k in range(1000)), "pump 1", "pump 40", ""])
+    many = [f"m{n}" for n in range(1000)]
+    make = 'capture A {"type":"TransformationEvent",%s,"inputEPCList":%s,"outputEPCList":%s}' % (T, json.dumps(many), json.dumps([f"o{n}" for n in range(1000)]))
+    yield "1,000 questions that 1,001 pairs answer each", "\n".join(["site A a", "site B b", make, *(f"reach A m{n}" for n in range(1000)), ""])
+    yield "1,000,000 lines that are refused", "x\n" * 1_000_000
+
+
+def folders(work):
+    """Folders by name, with what is asked of each. What fills them is measured, too."""
+    (work / "two").write_text("site A a\nsite B b\n")
+    (work / "many").write_text("x\n" * 2000)
+    (work / "shipped").write_text('{"type":"ObjectEvent",%s,"action":"OBSERVE","epcList":["x"],"destinationList":[{"destination":"b"}]}' % T)
+    yield "2,000 recalls of one item", work / "two", [["capture", "@", "A", work / "shipped"], ["start", "@", "A", "--from", work / "many"], ["run", "@"], ["audit", "@"], ["status", "@"]]
+    (work / "sixteen").write_text("".join(f"site S{n} s{n}\n" for n in range(16)))
+    lines = [it.split(" ", 2)[2] for it in ring(16, 1000) if it.startswith("capture")]
+    for n, it in enumerate(lines):
+        (work / f"ring{n}").write_text(it)
+    (work / "items").write_text("".join(f"i{k}\n" for k in range(1000)))
+    yield "1,000 recalls that go round 16 sites", work / "sixteen", [*(["capture", "@", f"S{n}", work / f"ring{n}"] for n in range(16)), ["start", "@", "S0", "--from", work / "items"], ["run", "@"], ["audit", "@"], ["report", "@", "S0#1"]]
+
+
+def measure_scripts(tally):
+    for name, text in scripts():
+        status, seconds, most = measured(["sim"], text.encode())
+        tally.tell(f"{name}: sim", "answered", None if status in (0, 1) else f"status {status}")
+        print(f"    {seconds:.2f} s, {most / 1024:.0f} MB, a script of {len(text) / 1e6:.2f} MB")
+
+
+def measure_folders(tally, work):
+    for name, sites, asked in folders(work):
+        folder = work / "worst"
+        shutil.rmtree(folder, ignore_errors=True)
+        folder.mkdir()
+        program("init", folder, sites)
+        for words in asked:
+            status, seconds, most = measured([folder if it == "@" else it for it in words])
+            tally.tell(f"{name}: {words[0]}", "answered", None if status in (0, 1, 4) else f"status {status}")
+            print(f"    {seconds:.2f} s, {most / 1024:.0f} MB")
+
+
 def run(tally, setting, work):
     asked = {"20 transformations of 1,000 in and 1,000 out": "m0-0", "1,000 parts of one transformationID": "i0", "1,000 containers, each in the next, shipped": "c0", "a chain of 1,000 makes": "k0"}
     (work / "list").write_text("site A a\nsite B b\n")
@@ -71,3 +122,5 @@ def run(tally, setting, work):
             told = f"{seconds:.2f} s, {most / 1024:.0f} MB, {(most - base) * 1024 / len(text):.0f} times the document of {len(text) / 1e6:.2f} MB"
             tally.tell(f"{name}: {what}", "answered", None if status in (0, 1) else f"status {status}")
             print(f"    {told}")
+    measure_scripts(tally)
+    measure_folders(tally, work)
