@@ -13,7 +13,7 @@ is_control code = nat_lt code 32 || is_from_to 127 159 code
 
 -- the marks of left to right and of right to left, which also embed, override and isolate; the separators of lines and of paragraphs
 abbrev pub is_mark : ℕ → Bool
-is_mark code = is_from_to 0x200e 0x200f code || is_from_to 0x2028 0x202e code || is_from_to 0x2066 0x2069 code
+is_mark code = code == 0x61c || is_from_to 0x200e 0x200f code || is_from_to 0x2028 0x202e code || is_from_to 0x2066 0x2069 code
 
 -- what is never shown as it is
 abbrev pub is_hidden : ℕ → Bool

@@ -7,7 +7,7 @@ ghost use Rattle.outcome_forms.specs.Shown.{is_control, is_hidden, is_mark, show
 use std::alloc::{AllocError, Global};
 
 /// A text that may come from a stranger, as it is shown: what is below a space, DEL, U+0080 to U+009F, the marks of
-/// direction (U+200E, U+200F, U+202A to U+202E, U+2066 to U+2069), U+2028 and U+2029 are written by their codes, as
+/// direction (U+061C, U+200E, U+200F, U+202A to U+202E, U+2066 to U+2069), U+2028 and U+2029 are written by their codes, as
 /// `\u{1b}`, and a backslash twice. So it is one line, and turns nothing around; any other character is as it was.
 pub fn shown(alloc: Global, text: &str) -> Result<String, AllocError>
     ensures exact { IfOk result (λ t. string_bytes t ≡ shown text.now) }
@@ -20,8 +20,8 @@ pub fn shown(alloc: Global, text: &str) -> Result<String, AllocError>
     Ok(shown)
 }
 
-#[tactic(auto, unfolding(crate::specs::Shown::shown_char))]
 /// Adds a character as it is shown.
+#[tactic(auto, unfolding(crate::specs::Shown::shown_char))]
 fn push_shown(alloc: Global, text: &mut String, c: char) -> Result<(), AllocError>
     ensures { OnOk result (string_bytes text.new ≡ string_bytes text.old ++ shown_char c) }
 {
@@ -54,7 +54,8 @@ fn is_control(c: char) -> bool
 fn is_mark(c: char) -> bool
     ensures { result ≡ is_mark c }
 {
-    ('\u{200e}' <= c && c <= '\u{200f}')
+    c == '\u{61c}'
+        || ('\u{200e}' <= c && c <= '\u{200f}')
         || ('\u{2028}' <= c && c <= '\u{202e}')
         || ('\u{2066}' <= c && c <= '\u{2069}')
 }
