@@ -46,7 +46,7 @@ pub use adding::{AddFault, Added, Standing};
 pub use adjacency::Adjacency;
 pub use captured::Captured;
 pub use chains::reach;
-pub use ordered_keys::keys_in_order;
+pub use ordered_keys::{in_order, keys_in_order};
 pub use pairs::Pair;
 pub use seen::Seen;
 pub use sendings::Sending;
