@@ -12,7 +12,7 @@ use Rattle.trace_core.specs.Sites.{SiteEvents}
 use Rattle.trace_core.proofs.Carrying.{deletes, observes}
 use Rattle.trace_core.proofs.ChainLaws.{reach_widens, reached_holds, reaches_step}
 use Rattle.trace_core.proofs.GapClosing.{known_is_where_it_came}
-use Rattle.gap_core.specs.Sources.{AreKnown, CameFrom, Index, IsOwn, IsTold, Keeps, LiesIn}
+use Rattle.gap_core.specs.Sources.{AreKnown, AreOwn, CameFrom, Index, IsOwn, IsTold, Keeps, LiesIn}
 use Rattle.gap_core.specs.declared.sources.Source.{Source}
 use Rattle.gap_core.proofs.Notings.{placed, stands_in}
 
@@ -123,3 +123,18 @@ lies_as_known sites index known at s so x y = (
       let (from, source, keeps) = known.complete at s u x y so there carries came in
       (from, keeps, (u, source, carries)),
 )
+
+-- so do the own packings of what each site packed
+pub own_lies : (sites : List SiteEvents) (index : Index) → AreOwn sites index → (at : ℕ) (s : SiteEvents) → slice_get sites at ≡ Some s → (x y : List ℕ)
+    → LiesIn sites index at x y ↔ Carries s.events x y
+own_lies sites index are at s so x y = (
+  λ (from, keeps, (u, source, carries)).
+      let (k, (t, st, place, (e, stands, (fills, is)))) = (are (x, record { at = at; from = from })).0 keeps in
+      let here : at ≡ from = sym (ap (λ (z : Source). z.at) is) ∙ ap (λ (z : Source). z.from) is in
+      subst (λ (z : SiteEvents). Carries z.events x y) (one u s (sym source ∙ ap (slice_get sites) (sym here) ∙ so)) carries,
+  λ (k, e, lt, is, packs).
+      (at, (are (x, record { at = at; from = at })).1 (at, (s, so, k, (e, slice_get-get_or s.events k e lt ∙ ap Some is, (fills x y e.body packs, refl)))), (s, so, (k, e, lt, is, packs))),
+)
+  where
+    one : (a b : SiteEvents) → Some a ≡ Some b → a ≡ b
+    one a b h = cc

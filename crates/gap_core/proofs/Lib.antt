@@ -1,7 +1,11 @@
 pub mod Additions
+pub mod BatchSteps
 pub mod EventsInTurn
+pub mod GapSteps
 pub mod KnownSteps
 pub mod Notings
+pub mod PackerSteps
+pub mod PlaceLists
 pub mod ShippedItems
 pub mod SourceLists
 pub mod TellingSteps

@@ -102,3 +102,10 @@ key_noted keys new i k same is = subst (λ j. NotesOne j keys new) same
 
     if_not : list_any (pointwise nat_eq k) keys ≡ false → insert_key (pointwise nat_eq) keys k ≡ keys ++ k ∷ []
     if_not h = rw h refl
+
+-- of an empty list just those are there
+pub noted_alone : {X : Type 0} (P : X → Type 0) (none new : List X) → none ≡ [] → NotesThose P none new → (x : X) → Contains new x ↔ P x
+noted_alone P none new is notes x = (
+  λ h. ⊎_elim (λ was. absurd (contains_none x (subst (λ xs. Contains xs x) is was))) (λ p. p) ((noted_members P none new notes x).0 h),
+  λ p. notes.all x p,
+)

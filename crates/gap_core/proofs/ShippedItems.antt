@@ -92,3 +92,7 @@ all_sent sites index at to s t starts sent so also ships walked i = (
         chain,
       ),
 )
+
+-- a shipment goes there
+pub ship_goes : (events : List Content) (to : Place) (i : List ℕ) → Any (λ e. ShipsTo i to e.body) events → (k : ℕ) × GoesAt events to k
+ship_goes events to i (k, e, lt, at, ships) = (k, (e, slice_get-get_or events k e lt ∙ ap Some at, ((ships_split i to e.body).0 ships).1))

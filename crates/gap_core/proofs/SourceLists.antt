@@ -36,7 +36,7 @@ one_item i j = ⊎_elim
     (cases_Bool (pointwise nat_eq i j))
 
 -- a query doesn't find another key
-other_key : {K : Type 0} {R : K → K → Ordering} → IsAntisymmetric R → (k q : K) → q ≢ k → is_eq (R k q) ≡ false
+pub other_key : {K : Type 0} {R : K → K → Ordering} → IsAntisymmetric R → (k q : K) → q ≢ k → is_eq (R k q) ≡ false
 other_key {R = R} exact k q ne = elim (R k q) as (λ r. R k q ≡ r → is_eq r ≡ false) [
   | Less ↦ λ e. refl
   | Equal ↦ λ e. absurd (ne (sym (exact k q e)))

@@ -1,16 +1,10 @@
 -- What a site ships, and by which of its events.
-use Rattle.std.specs.Prelude.{◌≡◌, ◌↔◌, ℕ, List, [], Option, None, Some, Contains, slice_get}
-use Rattle.std.specs.BTreeMap.{BTreeMap, get}
-use Rattle.std.specs.BTreeSet.{BTreeSet}
-use Rattle.std.specs.Cmp.Lexicographic.{slice_cmp}
-use Rattle.std.specs.Ordering.{nat_cmp}
+use Rattle.std.specs.Prelude.{◌≡◌, ◌↔◌, ℕ, List, [], Some, Contains, slice_get}
 use mathlib.Core.Logic.{inl, inr}
 use Rattle.event_json.specs.Events.{Content}
 use Rattle.event_json.specs.declared.bodies.Body.{Body}
 use Rattle.event_json.specs.declared.bodies.Body.TheVariants.{Note, Ship, Make, Pack}
-use Rattle.trace_core.specs.Gaps.{Place, IsElsewhere}
-use Rattle.trace_core.specs.Searches.{IsFound}
-use Rattle.trace_core.specs.Sites.{SiteEvents}
+use Rattle.trace_core.specs.Gaps.{Place}
 
 -- a shipment to a place outside
 abbrev pub GoesOutside : List ℕ → Body → Type 0
@@ -57,29 +51,3 @@ IsShippedOnce events place item = (e : Content) × (slice_get events place ≡ S
 -- one of the events at these places does
 abbrev pub IsShippedAt : List Content → List ℕ → List ℕ → Type 0
 IsShippedAt events places item = (k : ℕ) × Contains places k × IsShippedOnce events k item
-
--- the events, by the text of a place outside
-abbrev pub Outside : Type 0
-Outside = BTreeMap (List ℕ) (List ℕ)
-
-abbrev pub or_no_places : Option (List ℕ) → List ℕ
-or_no_places None = []
-or_no_places (Some places) = places
-
--- the event stands under the text
-abbrev pub KeepsPlace : Outside → List ℕ × ℕ → Type 0
-KeepsPlace outside m = Contains (or_no_places (get (slice_cmp nat_cmp) outside m.0)) m.1
-
--- under each text just the shipments there
-abbrev pub AreOutside : List Content → Outside → Type 0
-AreOutside events outside = (m : List ℕ × ℕ) → KeepsPlace outside m ↔ GoesAt events (inr m.0) m.1
-
--- the list is one of the set
-abbrev pub HasBatch : BTreeSet (List ℕ) → List ℕ → Type 0
-HasBatch batches places = IsFound (slice_cmp nat_cmp) batches places
-
--- for each place elsewhere to which the site ships the events by which it does, and no other list
-pub record AreAllBatches (s : SiteEvents) (batches : BTreeSet (List ℕ)) : Type 0 where
-  pub sound : (places : List ℕ) → HasBatch batches places → (to : Place) × IsElsewhere s to × ArePlacesTo s.events to places
-  pub complete : (to : Place) → IsElsewhere s to → (k : ℕ) → GoesAt s.events to k
-      → (places : List ℕ) × HasBatch batches places × ArePlacesTo s.events to places

@@ -6,12 +6,18 @@
 //! packings do, there is a packed gap.
 #![tactic(auto)]
 
+mod batches;
+mod gap_items;
 mod item_lists;
+mod outside;
+mod packers;
 mod places;
 mod searches;
 mod shipments;
+mod site_gaps;
 mod sources;
 mod walks;
 
+pub use gap_items::{GapItem, items_in_gaps};
 pub use searches::known_packings;
 pub use sources::{Source, Sources, sources_of};

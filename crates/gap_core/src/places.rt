@@ -32,6 +32,15 @@ impl Places {
         }
     }
 
+    /// One place.
+    pub fn one(alloc: Global, place: usize) -> Result<Places, AllocError>
+        ensures { IfOk result (λ p. p ≡ place ∷ []) }
+    {
+        let mut places = Vec::new(alloc);
+        places.push(place)?;
+        Ok(Places { places })
+    }
+
     /// Adds a place at the end.
     pub fn push(&mut self, place: usize) -> Result<(), AllocError>
         ensures { OnOk result (self.new ≡ self.old ++ place ∷ []) }

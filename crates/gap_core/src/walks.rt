@@ -57,7 +57,7 @@ fn note_contents(
 }
 
 /// Notes what lies in an item.
-fn note_inside(
+pub fn note_inside(
     alloc: Global,
     sites: &[&Captured],
     index: &BTreeMap<Epc, Sources>,

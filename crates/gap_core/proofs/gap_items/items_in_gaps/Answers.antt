@@ -1,0 +1,23 @@
+use Rattle.std.proofs.Common.{◌↔◌, [], arith}
+use Rattle.std.specs.List.{Contains}
+use Rattle.std.proofs.lemmas.Map.Lookups.{CmpEqualImpliesEq}
+use Rattle.std.proofs.lemmas.Result.{IfOk-weaker}
+use Rattle.trace_core.specs.Chains.{sites_at}
+use Rattle.trace_core.proofs.Visiting.{as_many_sites}
+use Rattle.gap_core.specs.GapItems.{IsGapAt, gap_item_cmp}
+use Rattle.gap_core.specs.GapLines.{IsGapChild}
+use Rattle.gap_core.specs.declared.gap_items.GapItem.{GapItem}
+use Rattle.gap_core.proofs.Additions.{more_before}
+use Rattle.gap_core.proofs.GapSteps.{all_gaps, gap_items_exact}
+use Rattle.gap_core.proofs.gap_items.items_in_gaps.Goals as goal
+
+pub loop-at-preserved : goal.loop-at-preserved
+loop-at-preserved c =
+    more_before (IsGapAt (sites_at c.args.sites.now)) c.loop-at.at (Contains []) (Contains c.loop-at.gaps.items) (Contains c.note_site_gaps.new.gaps.items) c.loop-at.invariant c.in_ok-note_site_gaps.ensures
+
+pub returns-clause-exact : goal.returns-clause-exact
+returns-clause-exact c = IfOk-weaker c.in_order.result
+    (λ items. CmpEqualImpliesEq gap_item_cmp → (g : GapItem) → Contains items.items g ↔ Contains c.loop-at.gaps.items g)
+    (λ items. (g : GapItem) → Contains items.items g ↔ IsGapChild (sites_at c.args.sites.now) g.site g.by g.container g.child)
+    (λ items same. all_gaps (sites_at c.args.sites.now) c.loop-at.at c.loop-at.gaps.items items.items (as_many_sites c.args.sites.now c.loop-at.at (omega (arith, c.loop-at-test.false))) c.loop-at.invariant (same gap_items_exact))
+    c.in_order.ensures.same
