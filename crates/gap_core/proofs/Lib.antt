@@ -3,6 +3,7 @@ pub mod BatchSteps
 pub mod EventsInTurn
 pub mod GapSteps
 pub mod KnownSteps
+pub mod LineSteps
 pub mod Notings
 pub mod PackerSteps
 pub mod PlaceLists

@@ -2,6 +2,7 @@ pub mod Adding
 pub mod Batches
 pub mod GapItems
 pub mod GapLines
+pub mod Lines
 pub mod Packers
 pub mod Searches
 pub mod Shipments

@@ -9,6 +9,7 @@
 mod batches;
 mod gap_items;
 mod item_lists;
+mod lines;
 mod outside;
 mod packers;
 mod places;
@@ -19,5 +20,6 @@ mod sources;
 mod walks;
 
 pub use gap_items::{GapItem, items_in_gaps};
+pub use lines::{GapLine, Gaps, packed_gaps};
 pub use searches::known_packings;
 pub use sources::{Source, Sources, sources_of};
