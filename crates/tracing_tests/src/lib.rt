@@ -1,11 +1,13 @@
-//! Items, documents and chains by examples whose answers were written by hand. The tests stand in a crate of their own,
-//! so that what they test isn't proved again with them.
+//! Items, documents, chains and their packed gaps by examples whose answers were written by hand. The tests stand in a
+//! crate of their own, so that what they test isn't proved again with them.
 #![tactic(auto)]
 
 #[cfg(test)]
 mod documents;
 #[cfg(test)]
 mod epcs;
+#[cfg(test)]
+mod gaps;
 #[cfg(test)]
 mod places;
 #[cfg(test)]
