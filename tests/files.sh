@@ -388,6 +388,7 @@ spent=$((($(date +%s%N) - begun) / 1000))
 some=0
 for ((n = 0; n < stops; n++)); do
     rm -rf stopped && cp -r before stopped
+    : >answered
     "$recall" capture stopped dairy --lines many >answered 2>/dev/null &
     sleep "$(printf '%d.%06d' $((spent * n / stops / 1000000)) $((spent * n / stops % 1000000)))"
     kill -9 $! 2>/dev/null
