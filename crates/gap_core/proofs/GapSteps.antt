@@ -201,7 +201,7 @@ batch_gaps sites own known at places told sent old new tell send =
 
 module _ (sites : List SiteEvents) (own known : Index) (are_own : AreOwn sites own) (are_known : AreKnown sites known) (at : ℕ) (s : SiteEvents) (so : slice_get sites at ≡ Some s) where
   -- what is sent by the known packings, and by the own ones
-  sends_known : (to : Place) (places : List ℕ) → ArePlacesTo s.events to places → (i : List ℕ) → IsSentBy sites known at places i ↔ IsSent (by_known sites) s i to
+  pub sends_known : (to : Place) (places : List ℕ) → ArePlacesTo s.events to places → (i : List ℕ) → IsSentBy sites known at places i ↔ IsSent (by_known sites) s i to
   sends_known to places are i = (
     λ (t, also, carrier, shipped, chain).
         let same = some_is t s (sym also ∙ so) in (
@@ -218,7 +218,7 @@ module _ (sites : List SiteEvents) (own known : Index) (are_own : AreOwn sites o
     ),
   )
 
-  sends_own : (to : Place) (places : List ℕ) → ArePlacesTo s.events to places → (i : List ℕ) → IsSentBy sites own at places i ↔ IsSent by_own s i to
+  pub sends_own : (to : Place) (places : List ℕ) → ArePlacesTo s.events to places → (i : List ℕ) → IsSentBy sites own at places i ↔ IsSent by_own s i to
   sends_own to places are i = (
     λ (t, also, carrier, shipped, chain).
         let same = some_is t s (sym also ∙ so) in (

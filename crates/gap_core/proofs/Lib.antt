@@ -4,6 +4,7 @@ pub mod EventsInTurn
 pub mod GapSteps
 pub mod KnownSteps
 pub mod LineSteps
+pub mod MissedSteps
 pub mod Notings
 pub mod PackerSteps
 pub mod PlaceLists

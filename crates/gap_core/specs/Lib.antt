@@ -3,6 +3,7 @@ pub mod Batches
 pub mod GapItems
 pub mod GapLines
 pub mod Lines
+pub mod Missed
 pub mod Packers
 pub mod Searches
 pub mod Shipments

@@ -10,6 +10,7 @@ mod batches;
 mod gap_items;
 mod item_lists;
 mod lines;
+mod missed;
 mod outside;
 mod packers;
 mod places;
@@ -21,5 +22,6 @@ mod walks;
 
 pub use gap_items::{GapItem, items_in_gaps};
 pub use lines::{GapLine, Gaps, packed_gaps};
+pub use missed::missed_pairs;
 pub use searches::known_packings;
 pub use sources::{Source, Sources, sources_of};

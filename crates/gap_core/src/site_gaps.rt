@@ -63,7 +63,7 @@ fn note_batch_gaps(
 }
 
 /// What the shipments at some places send: what they ship, and what lies in that by the packings whose sources are given.
-fn sent_by(
+pub fn sent_by(
     alloc: Global,
     sites: &[&Captured],
     index: &BTreeMap<Epc, Sources>,
