@@ -1,10 +1,9 @@
 -- Items that are missed, shipment by shipment.
-use Rattle.std.proofs.Common.{◌≡◌, ◌↔◌, inl, inr, ℕ, ◌<◌, ◌≤◌, ◌∙◌, List, [], ◌∷◌, ◌++◌, None, Some, length, slice_get, refl, sym, ap, subst, ⊎_elim, arith}
-use mathlib.Core.Logic.{◌⊎◌}
+use Rattle.std.proofs.Common.{◌≡◌, ◌↔◌, inr, ℕ, ◌<◌, ◌≤◌, ◌∙◌, List, [], ◌∷◌, ◌++◌, None, Some, length, slice_get, sym, ap, subst, ⊎_elim, arith}
 use Rattle.std.specs.List.{Contains}
 use Rattle.std.proofs.lemmas.Option.{slice_get_within}
 use Rattle.trace_core.specs.declared.pairs.Pair.{Pair}
-use Rattle.trace_core.specs.Gaps.{Place, IsMissed, by_known}
+use Rattle.trace_core.specs.Gaps.{IsMissed, by_known}
 use Rattle.trace_core.specs.Sites.{SiteEvents}
 use Rattle.trace_core.proofs.Members.{contains_none}
 use Rattle.trace_core.proofs.NumberLists.{none_is, some_is}
