@@ -433,7 +433,9 @@ class Judge:
         if status == 3:
             if not fault:
                 return what, f"a fault that isn't told: {err!r}"
-            if out and not run and not (self.answer.startswith(out) and (out.endswith(b"\n") or told == "Write")):
+            # Reports and traces are written as they are made: where memory runs out, a beginning of them stands.
+            may_be_cut = told == "Write" or told == "NoMemory" and self.command.words[0] in ("report", "trace")
+            if out and not run and not (self.answer.startswith(out) and (out.endswith(b"\n") or may_be_cut)):
                 return what, f"answered {out!r} beside a fault"
             return what, None
         return what, f"status {status}: {out!r} {err!r}"
