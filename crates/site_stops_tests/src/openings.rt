@@ -69,7 +69,7 @@ pub struct Failures {
 
 /// A disk fails at each call of one of these files, from the first one on, until neither the opening nor the closing
 /// fails.
-fn failures(
+fn each_failure(
     keeping: &Keeping,
     files: &Files<Frail>,
     name: &str,
@@ -122,14 +122,14 @@ fn shown_by(keeping: &Keeping, site: &Site) -> Result<Shown, Ended> {
 pub fn of_a(keeping: &Keeping, file: u64) -> Result<Failures, Ended> {
     let site = after_recall(keeping, false)?;
     let shown = shown_by(keeping, &site)?;
-    failures(keeping, &files_of(site), "A", &shown, file)
+    each_failure(keeping, &files_of(site), "A", &shown, file)
 }
 
 /// Of B after a recall.
 pub fn of_b(keeping: &Keeping, file: u64) -> Result<Failures, Ended> {
     let site = after_recall(keeping, true)?;
     let shown = shown_by(keeping, &site)?;
-    failures(keeping, &files_of(site), "B", &shown, file)
+    each_failure(keeping, &files_of(site), "B", &shown, file)
 }
 
 /// The files of a site whose tables are made those of the first version, and whose log still holds that.
@@ -148,7 +148,7 @@ fn of_first_version(site: Site) -> Result<Files<Frail>, Ended> {
 pub fn of_a_migration(keeping: &Keeping, file: u64) -> Result<Failures, Ended> {
     let site = after_recall(keeping, false)?;
     let shown = shown_by(keeping, &site)?;
-    failures(keeping, &of_first_version(site)?, "A", &shown, file)
+    each_failure(keeping, &of_first_version(site)?, "A", &shown, file)
 }
 
 /// What is left of the sites where the log of A fails after so many calls, in the last turn of a recall: else the error.
@@ -176,7 +176,7 @@ fn left_of_a_step(keeping: &Keeping, calls: u64) -> Result<Left, Ended> {
 fn opening_of_left(keeping: &Keeping, left: Left, file: u64) -> Result<Failures, Ended> {
     let site = opened(keeping, written(keeping.alloc, &left.a), "A").site()?;
     let shown = shown_by(keeping, &site)?;
-    failures(keeping, &left.a, "A", &shown, file)
+    each_failure(keeping, &left.a, "A", &shown, file)
 }
 
 /// Of what the last step of a recall left of A, for each call at which its log failed: of how many of them.

@@ -26,7 +26,7 @@ impl Drop for Played<'_> {
 }
 
 /// Plays the turns.
-fn played<'a>(keeping: &Keeping, turns: &'a [Turn]) -> Option<Played<'a>> {
+fn played_of<'a>(keeping: &Keeping, turns: &'a [Turn]) -> Option<Played<'a>> {
     let mut shown = Vec::new(keeping.alloc);
     let mut both = made(keeping, &NONE).ok()?;
     for turn in turns {
@@ -161,7 +161,7 @@ struct Stops {
 }
 
 /// So many of the calls of a file fail in the turns, from the least with which there are sites until none fails.
-fn stops(
+fn each_stop(
     rt: &HostRuntime,
     keeping: &Keeping,
     file: u64,
@@ -208,10 +208,10 @@ fn both_stop(
     second: u64,
 ) -> Result<bool, Fail> {
     let keeping = keeping(rt, frames)?;
-    match played(&keeping, turns) {
+    match played_of(&keeping, turns) {
         Some(played) => {
-            let of_first = stops(rt, &keeping, first, fails, &played)?;
-            let of_second = stops(rt, &keeping, second, fails, &played)?;
+            let of_first = each_stop(rt, &keeping, first, fails, &played)?;
+            let of_second = each_stop(rt, &keeping, second, fails, &played)?;
             Ok(of_first.gone_on > 0 && of_second.gone_on > 0)
         }
         None => Err("no disk failed, and there were no sites".into()),

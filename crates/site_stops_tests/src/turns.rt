@@ -183,8 +183,8 @@ pub fn turns_done(alloc: Global, world: &mut World<Site>, turns: &[Turn]) -> Res
 
 /// The site whose disks these are is opened again.
 pub fn reopens(world: &mut World<Site>, is_second: bool) -> Outcome {
-    let number = if is_second { 1 } else { 0 };
-    given(world, WorldEvent::Reopen { site: site(number) })
+    let site = if is_second { site(1) } else { site(0) };
+    given(world, WorldEvent::Reopen { site })
 }
 
 /// The capture and the start happen again that had no answer, where so many turns were done. Where the last one of them was
