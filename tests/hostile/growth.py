@@ -2,7 +2,8 @@
 in a file, its making and opening, a script. What is promised: the answer with ample memory, or NoMemory with all as it was
 before, and then, of the call made again, the answer with ample memory. A turn is left to `run` of the program (memory.py).
 
-The program, growth.rt.txt, is built beside a copy of the crates by `rt run`, which proves it first, or GROWTH names a built one.
+The program, growth.rt.txt, is built beside a copy of the crates by `rt run`, which has to prove it first and doesn't yet; or GROWTH names
+a built one, which may be built without proofs.
 """
 import os
 import pathlib
