@@ -4,6 +4,7 @@ pub mod EventsInTurn
 pub mod GapSteps
 pub mod KnownSteps
 pub mod LineSteps
+pub mod MissedReach
 pub mod MissedSteps
 pub mod Notings
 pub mod PackerSteps
@@ -11,4 +12,7 @@ pub mod PlaceLists
 pub mod ShippedItems
 pub mod SourceLists
 pub mod TellingSteps
+pub mod Turns
+pub mod UnseenSteps
+pub mod UsedSteps
 pub mod WalkSteps

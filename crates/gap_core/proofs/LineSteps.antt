@@ -15,13 +15,11 @@ use Rattle.std.proofs.lemmas.List.Elements.{Contains-get_or}
 use Rattle.std.proofs.lemmas.List.Sums.{sum_by_push}
 use Rattle.std.proofs.lemmas.Map.Keys.{Less-from_sorted}
 use Rattle.std.proofs.lemmas.Map.Lookups.{exact_unsigned, exact_bytes}
-use Rattle.trace_core.specs.Sites.{SiteEvents}
 use Rattle.trace_core.specs.Spreads.{AreAscendingItems}
 use Rattle.trace_core.proofs.Members.{contains_here, contains_none, contains_there}
 use Rattle.trace_core.proofs.SetMembers.{contains_pushed}
 use Rattle.gap_core.specs.GapItems.{gap_item_cmp}
-use Rattle.gap_core.specs.GapLines.{IsGapChild}
-use Rattle.gap_core.specs.Lines.{AreGapLines, AreLinesOf, HaveOneKey, IsEnd, IsLineOf, IsOfLine, gap_line_cmp, item_of}
+use Rattle.gap_core.specs.Lines.{AreLinesOf, HaveOneKey, IsEnd, IsLineOf, IsOfLine, gap_line_cmp, item_of, items_in}
 use Rattle.gap_core.specs.declared.gap_items.GapItem.{GapItem}
 use Rattle.gap_core.specs.declared.lines.GapLine.{GapLine}
 
@@ -105,7 +103,7 @@ lines_less a b l m la mb less =
 pub record LinesTo (items : List GapItem) (d : GapItem) (lines : List GapLine) (start : ℕ) : Type 0 where
   pub within : start ≤ length items
   pub ascending : IsStrictlySortedBy gap_line_cmp lines
-  pub each : (l : GapLine) → Contains lines l → IsLineOf items l
+  pub each : (l : GapLine) → Contains lines l → IsLineOf (Contains items) l
   pub from : (l : GapLine) → Contains lines l → (k : ℕ) × (k < start) × IsOfLine (get_or items k d) l
   pub all : (k : ℕ) → k < start → (l : GapLine) × Contains lines l × IsOfLine (get_or items k d) l
   pub apart : (k j : ℕ) → k < start → start ≤ j → j < length items → HaveOneKey (get_or items k d) (get_or items j d) → ⊥
@@ -207,7 +205,7 @@ module _ (items : List GapItem) (sorted : IsStrictlySortedBy gap_item_cmp items)
   abbrev line_at : ℕ → ℕ → GapLine
   line_at start end = record { site = (at start).site; container = (at start).container; by = (at start).by; items = end - start }
 
-  run_line : (start end : ℕ) → AreApart start → IsEnd items start end → IsLineOf items (line_at start end)
+  run_line : (start end : ℕ) → AreApart start → IsEnd items start end → IsLineOf (Contains items) (line_at start end)
   run_line start end apart is = record {
     children = children_from start (end - start);
     ascending = children_ascend start end (end - start) is (fits is.after);
@@ -278,7 +276,7 @@ module _ (items : List GapItem) (sorted : IsStrictlySortedBy gap_item_cmp items)
   lines_go_on lines new start end so_far is pushed = record {
     within = is.within;
     ascending = subst (IsStrictlySortedBy gap_line_cmp) (sym pushed) (sorted_push gap_line_cmp lines (line_at start end) so_far.ascending before);
-    each = λ l h. ⊎_elim (λ was. so_far.each l was) (λ same. subst (IsLineOf items) same (run_line start end so_far.apart is)) (cases l h);
+    each = λ l h. ⊎_elim (λ was. so_far.each l was) (λ same. subst (IsLineOf (Contains items)) same (run_line start end so_far.apart is)) (cases l h);
     from = λ l h. ⊎_elim
         (λ was. let (k, lt, of) = so_far.from l was in (k, later k lt is.after, of))
         (λ same. (start, is.after, subst (IsOfLine (at start)) same itself))
@@ -323,19 +321,21 @@ module _ (items : List GapItem) (sorted : IsStrictlySortedBy gap_item_cmp items)
       summed : sum_by (λ l. l.items) lines ≡ start → start < end → sum_by (λ l. l.items) lines + (end - start) ≡ end
       summed h k = omega (arith, h, k)
 
-  pub lines_end : (lines : List GapLine) (start : ℕ) → length items ≤ start → LinesTo items d lines start → AreLinesOf items lines
+  pub lines_end : (lines : List GapLine) (start : ℕ) → length items ≤ start → LinesTo items d lines start → AreLinesOf (Contains items) lines
   lines_end lines start past so_far = record {
     ascending = so_far.ascending;
-    each = so_far.each;
+    true_ones = so_far.each;
     all = λ g (k, lt, stands).
         let (l, there, of) = so_far.all k (before k lt) in
         (l, there, subst (λ x. IsOfLine x l) (get_or_default items k d g lt ∙ stands) of);
-    total = so_far.total ∙ whole so_far.within;
   }
     where
       before : (k : ℕ) → k < length items → k < start
       before k lt = omega (arith, lt, past)
 
+  pub lines_count : (lines : List GapLine) (start : ℕ) → length items ≤ start → LinesTo items d lines start → length items ≡ items_in lines
+  lines_count lines start past so_far = sym (so_far.total ∙ whole so_far.within)
+    where
       whole : start ≤ length items → start ≡ length items
       whole h = omega (arith, h, past)
 
@@ -405,19 +405,16 @@ run_ends items start end some past runs = record {
     none : length items < length items → ⊥
     none lt = omega (arith, lt)
 
--- the lines of all items that stand in gaps
-pub gap_lines : (sites : List SiteEvents) (items : List GapItem) (lines : List GapLine) → ((g : GapItem) → Contains items g ↔ IsGapChild sites g.site g.by g.container g.child)
-    → AreLinesOf items lines → AreGapLines sites lines
-gap_lines sites items lines exact are = record {
+-- the lines of all items of which something holds
+pub lines_alike : (P : GapItem → Type 0) (items : List GapItem) (lines : List GapLine) → ((g : GapItem) → Contains items g ↔ P g) → AreLinesOf (Contains items) lines → AreLinesOf P lines
+lines_alike P items lines exact are = record {
   ascending = are.ascending;
-  true_ones = λ l there. let line = are.each l there in record {
+  true_ones = λ l there. let line = are.true_ones l there in record {
     children = line.children;
     ascending = line.ascending;
     exact = λ c. (λ h. (exact (item_of l c)).0 ((line.exact c).0 h), λ h. (line.exact c).1 ((exact (item_of l c)).1 h));
     counted = line.counted;
     some = line.some;
   };
-  all = λ site by container child gap.
-      let (l, there, of) = are.all (record { site = site; container = container; by = by; child = child }) ((exact (record { site = site; container = container; by = by; child = child })).1 gap) in
-      (l, there, sym of.site, sym of.container, sym of.by);
+  all = λ g h. are.all g ((exact g).1 h);
 }

@@ -1,5 +1,5 @@
 -- What is added to something that holds elements.
-use Rattle.std.specs.Prelude.{◌≡◌, ◌↔◌, ◌⊎◌, List, ◌++◌, Contains}
+use Rattle.std.specs.Prelude.{◌≡◌, ◌↔◌, ◌⊎◌, ℕ, List, ◌++◌, Some, Contains, slice_get}
 
 -- just those of P are added
 abbrev pub AddsTo : {X : Type 0} → (X → Type 0) → (X → Type 0) → (X → Type 0) → Type 0
@@ -16,6 +16,10 @@ AddsNothing {X} Old New = (x : X) → New x → Old x
 -- it is so by one of the list
 abbrev pub ByOne : {X Y : Type 0} → List Y → (Y → X → Type 0) → X → Type 0
 ByOne {X} {Y} ys P x = (y : Y) × Contains ys y × P y x
+
+-- by the one at a place of it
+abbrev pub ByOneAt : {X Y : Type 0} → List Y → (Y → X → Type 0) → ℕ → X → Type 0
+ByOneAt {X} {Y} ys P place x = (y : Y) × (slice_get ys place ≡ Some y) × P y x
 
 -- those of P are there now; those that weren't there before come at the end, and nothing else does
 pub record NotesThose {X : Type 0} (P : X → Type 0) (old new : List X) : Type 0 where

@@ -2,9 +2,12 @@ pub mod Adding
 pub mod Batches
 pub mod GapItems
 pub mod GapLines
+pub mod Laws
 pub mod Lines
 pub mod Missed
 pub mod Packers
 pub mod Searches
 pub mod Shipments
 pub mod Sources
+pub mod Unseen
+pub mod Used

@@ -1,4 +1,4 @@
--- Packed gaps by container: a line for each site, container and site that packed it.
+-- Gaps by container: a line for each site, container and site that packed it.
 use Rattle.std.specs.Prelude.{◌≡◌, ◌<◌, ◌≤◌, ◌↔◌, ℕ, List, length, Contains, get_or, sum_by}
 use Rattle.std.specs.List.Sorted.{IsStrictlySortedBy}
 use Rattle.std.specs.declared.cmp.Ordering.{Ordering}
@@ -7,6 +7,7 @@ use Rattle.std.specs.Cmp.Lexicographic.{slice_cmp}
 use Rattle.trace_core.specs.Sites.{SiteEvents}
 use Rattle.trace_core.specs.Spreads.{AreAscendingItems}
 use Rattle.gap_core.specs.GapLines.{IsGapChild}
+use Rattle.gap_core.specs.Used.{IsUsedChild}
 use Rattle.gap_core.specs.declared.gap_items.GapItem.{GapItem}
 use Rattle.gap_core.specs.declared.lines.GapLine.{GapLine}
 
@@ -14,25 +15,41 @@ use Rattle.gap_core.specs.declared.lines.GapLine.{GapLine}
 abbrev pub gap_line_cmp : GapLine → GapLine → Ordering
 gap_line_cmp a b = ordering_then (nat_cmp a.site b.site) (ordering_then (slice_cmp nat_cmp a.container b.container) (nat_cmp a.by b.by))
 
+-- the item is one of the line
+pub record IsOfLine (g : GapItem) (l : GapLine) : Type 0 where
+  pub site : g.site ≡ l.site
+  pub container : g.container ≡ l.container
+  pub by : g.by ≡ l.by
+
+-- the item of a line with this child
+abbrev pub item_of : GapLine → List ℕ → GapItem
+item_of l child = record { site = l.site; container = l.container; by = l.by; child = child }
+
 -- the children of a line, each once: as many as it says, and one at least
-pub record IsGapLine (sites : List SiteEvents) (l : GapLine) : Type 0 where
+pub record IsLineOf (P : GapItem → Type 0) (l : GapLine) : Type 0 where
   pub children : List (List ℕ)
   pub ascending : AreAscendingItems children
-  pub exact : (child : List ℕ) → Contains children child ↔ IsGapChild sites l.site l.by l.container child
+  pub exact : (child : List ℕ) → Contains children child ↔ P (item_of l child)
   pub counted : l.items ≡ length children
   pub some : 1 ≤ l.items
 
--- all lines: ascending, each true, and none is left out
-pub record AreGapLines (sites : List SiteEvents) (lines : List GapLine) : Type 0 where
+-- all lines of the items that P holds of: ascending, each true, and no item is left out
+pub record AreLinesOf (P : GapItem → Type 0) (lines : List GapLine) : Type 0 where
   pub ascending : IsStrictlySortedBy gap_line_cmp lines
-  pub true_ones : (l : GapLine) → Contains lines l → IsGapLine sites l
-  pub all : (site by : ℕ) (container child : List ℕ) → IsGapChild sites site by container child
-      → (l : GapLine) × Contains lines l × (l.site ≡ site) × (l.container ≡ container) × (l.by ≡ by)
+  pub true_ones : (l : GapLine) → Contains lines l → IsLineOf P l
+  pub all : (g : GapItem) → P g → (l : GapLine) × Contains lines l × IsOfLine g l
 
--- the last line: containers, and items over all lines
-pub record AreGapTotals (lines : List GapLine) (packed items : ℕ) : Type 0 where
-  pub packed_is : packed ≡ length lines
-  pub items_is : items ≡ sum_by (λ l. l.items) lines
+-- those of the items that stand in packed gaps
+abbrev pub AreGapLines : List SiteEvents → List GapLine → Type 0
+AreGapLines sites = AreLinesOf (λ g. IsGapChild sites g.site g.by g.container g.child)
+
+-- those of the items that weren't taken into a transformation with what they lie in
+abbrev pub AreUsedLines : List SiteEvents → List GapLine → Type 0
+AreUsedLines sites = AreLinesOf (IsUsedChild sites)
+
+-- how many items the lines have
+abbrev pub items_in : List GapLine → ℕ
+items_in lines = sum_by (λ l. l.items) lines
 
 -- ---- the lines of items in order
 
@@ -42,34 +59,9 @@ pub record HaveOneKey (a b : GapItem) : Type 0 where
   pub container : a.container ≡ b.container
   pub by : a.by ≡ b.by
 
--- the item is one of the line
-pub record IsOfLine (g : GapItem) (l : GapLine) : Type 0 where
-  pub site : g.site ≡ l.site
-  pub container : g.container ≡ l.container
-  pub by : g.by ≡ l.by
-
 -- those of a line that begins at a place end before this one
 pub record IsEnd (items : List GapItem) (start end : ℕ) : Type 0 where
   pub after : start < end
   pub within : end ≤ length items
   pub same : (d : GapItem) (k : ℕ) → start ≤ k → k < end → HaveOneKey (get_or items start d) (get_or items k d)
   pub next : (d : GapItem) → end < length items → HaveOneKey (get_or items start d) (get_or items end d) → ⊥
-
--- the item of a line with this child
-abbrev pub item_of : GapLine → List ℕ → GapItem
-item_of l child = record { site = l.site; container = l.container; by = l.by; child = child }
-
--- the line has just these items, in order
-pub record IsLineOf (items : List GapItem) (l : GapLine) : Type 0 where
-  pub children : List (List ℕ)
-  pub ascending : AreAscendingItems children
-  pub exact : (child : List ℕ) → Contains children child ↔ Contains items (item_of l child)
-  pub counted : l.items ≡ length children
-  pub some : 1 ≤ l.items
-
--- all lines of the items
-pub record AreLinesOf (items : List GapItem) (lines : List GapLine) : Type 0 where
-  pub ascending : IsStrictlySortedBy gap_line_cmp lines
-  pub each : (l : GapLine) → Contains lines l → IsLineOf items l
-  pub all : (g : GapItem) → Contains items g → (l : GapLine) × Contains lines l × IsOfLine g l
-  pub total : sum_by (λ l. l.items) lines ≡ length items

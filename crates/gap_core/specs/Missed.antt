@@ -1,6 +1,9 @@
 -- Items that sites sent by what is known at them, and not by their own packings.
 use Rattle.std.specs.Prelude.{◌≡◌, ℕ, List, Some, Contains, slice_get}
+use Rattle.std.specs.BTreeSet.{BTreeSet}
 use Rattle.trace_core.specs.declared.pairs.Pair.{Pair}
+use Rattle.trace_core.specs.Pairs.{pair_cmp}
+use Rattle.trace_core.specs.Searches.{IsFound}
 use Rattle.trace_core.specs.Gaps.{Place, IsMissed, by_known}
 use Rattle.trace_core.specs.Sites.{SiteEvents}
 use Rattle.gap_core.specs.GapItems.{IsSentBy}
@@ -37,3 +40,7 @@ IsMissedIn sites at told item p = (Contains told item → ⊥) × (s : SiteEvent
 -- so of the item at a place of a list
 abbrev pub IsMissedOfAt : List SiteEvents → ℕ → List (List ℕ) → List (List ℕ) → ℕ → Pair → Type 0
 IsMissedOfAt sites at sent told place p = (item : List ℕ) × (slice_get sent place ≡ Some item) × IsMissedIn sites at told item p
+
+-- the pair, if it is in the set
+abbrev pub IsPairFound : BTreeSet Pair → Pair → Pair → Type 0
+IsPairFound set pair p = IsFound pair_cmp set pair × (pair ≡ p)

@@ -8,9 +8,12 @@
 
 mod batches;
 mod gap_items;
+mod inputs;
 mod item_lists;
+pub mod laws;
 mod lines;
 mod missed;
+mod missed_reach;
 mod outside;
 mod packers;
 mod places;
@@ -18,10 +21,14 @@ mod searches;
 mod shipments;
 mod site_gaps;
 mod sources;
+mod unseen;
+mod used;
 mod walks;
 
 pub use gap_items::{GapItem, items_in_gaps};
-pub use lines::{GapLine, Gaps, packed_gaps};
+pub use lines::{GapLine, Gaps, packed_gaps, used_gaps};
 pub use missed::missed_pairs;
+pub use missed_reach::missed_among;
 pub use searches::known_packings;
 pub use sources::{Source, Sources, sources_of};
+pub use unseen::{UnseenItem, unseen_items};

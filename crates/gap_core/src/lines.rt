@@ -1,25 +1,27 @@
-//! Packed gaps by container.
-ghost use Rattle.std.specs.Prelude.{◌≡◌, ◌<◌, ◌++◌, ◌∷◌, [], IfOk, OnOk, IsTrue, ◌↔◌, length, get_or};
+//! Gaps by container.
+ghost use Rattle.std.specs.Prelude.{◌≡◌, ◌<◌, ◌++◌, ◌∷◌, [], IfOk, OnOk, IsTrue, ◌↔◌, Contains, length, get_or};
 ghost use Rattle.std.specs.List.Sorted.{IsStrictlySortedBy};
 ghost use Rattle.trace_core.specs.Chains.{sites_at};
 ghost use Rattle.gap_core.specs.GapItems.{gap_item_cmp};
-ghost use Rattle.gap_core.specs.Lines.{AreGapLines, AreGapTotals, AreLinesOf, HaveOneKey, IsEnd};
+ghost use Rattle.gap_core.specs.Lines.{AreGapLines, AreLinesOf, AreUsedLines, HaveOneKey, IsEnd, items_in};
 
 use crate::gap_items::{GapItem, items_in_gaps};
+use crate::used::used_items;
 use epc_core::Epc;
 use event_json::{Sequence, SiteNo};
 use std::alloc::{AllocError, Global};
 use trace_core::Captured;
 
-/// A container in which items stand in packed gaps: a site shipped it, and of these items, which another site put there,
-/// the first one's own packings tell neither that nor that they went there.
+/// A container in which items stand in gaps. In packed ones: a site shipped it, and of these items, which another site
+/// put there, the first one's own packings tell neither that nor that they went there. In used ones: a site took it into
+/// a transformation, and these items, which lie in it, not.
 #[derive(Debug, Drop)]
 pub struct GapLine {
-    /// The site that shipped the container.
+    /// The site that shipped the container, or took it into a transformation.
     pub site: SiteNo,
     /// The container.
     pub container: Epc,
-    /// The least of the sites that packed these items and from which the container came.
+    /// The least of the sites that packed these items and from which the container came; of a used gap the site itself.
     pub by: SiteNo,
     /// How many items, 1 at least.
     pub items: usize,
@@ -40,8 +42,7 @@ pub struct Gaps {
 /// Out of memory.
 pub fn packed_gaps(alloc: Global, sites: &[&Captured]) -> Result<Gaps, AllocError>
     ensures lines { IfOk result (λ gaps. AreGapLines (sites_at sites.now) gaps.lines) }
-    ensures totals { IfOk result (λ gaps.
-        AreGapTotals gaps.lines (length gaps.lines) gaps.items) }
+    ensures items { IfOk result (λ gaps. gaps.items ≡ items_in gaps.lines) }
 {
     let items = items_in_gaps(alloc, sites)?;
     let lines = lines_of(alloc, items.as_slice())?;
@@ -51,10 +52,23 @@ pub fn packed_gaps(alloc: Global, sites: &[&Captured]) -> Result<Gaps, AllocErro
     })
 }
 
+/// Finds the containers that several sites took into transformations without what lies in them, by what is known of
+/// packings. Where two of the sites have one number, their gaps are told together.
+///
+/// # Errors
+/// Out of memory.
+pub fn used_gaps(alloc: Global, sites: &[&Captured]) -> Result<Vec<GapLine>, AllocError>
+    ensures { IfOk result (λ lines. AreUsedLines (sites_at sites.now) lines.items) }
+{
+    let items = used_items(alloc, sites)?;
+    lines_of(alloc, items.as_slice())
+}
+
 /// The lines of items in order.
 fn lines_of(alloc: Global, items: &[GapItem]) -> Result<Vec<GapLine>, AllocError>
     requires { IsStrictlySortedBy gap_item_cmp items.now }
-    ensures { IfOk result (λ lines. AreLinesOf items.now lines.items) }
+    ensures lines { IfOk result (λ lines. AreLinesOf (Contains items.now) lines.items) }
+    ensures items { IfOk result (λ lines. length items.now ≡ items_in lines.items) }
 {
     let mut lines = Vec::new(alloc);
     let mut start = 0;

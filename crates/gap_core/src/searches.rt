@@ -288,7 +288,7 @@ fn sent_to(
 }
 
 /// What a site ships to another one.
-fn starts_to(alloc: Global, site: &Captured, to: &Captured) -> Result<ItemList, AllocError>
+pub fn starts_to(alloc: Global, site: &Captured, to: &Captured) -> Result<ItemList, AllocError>
     ensures { IfOk result (λ starts. (i : List ℕ) → Contains starts i
         ↔ Any (λ e. ShipsTo i (inl to.now.me) e.body) site.now.events) }
 {

@@ -101,7 +101,7 @@ fn shipped_in(body: &Body) -> &[Epc]
 }
 
 /// Notes each of some items.
-fn note_items(alloc: Global, some: &[Epc], items: &mut ItemList) -> Result<(), AllocError>
+pub fn note_items(alloc: Global, some: &[Epc], items: &mut ItemList) -> Result<(), AllocError>
     ensures { OnOk result (NotesThose (Contains some.now) items.old items.new) }
 {
     for item in some {

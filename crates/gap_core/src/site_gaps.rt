@@ -248,7 +248,7 @@ fn is_told(child: &Epc, told: &ItemList, packed: &ItemList) -> bool
 }
 
 /// Adds an item that stands in a gap.
-fn push_gap(
+pub fn push_gap(
     alloc: Global,
     site: SiteNo,
     container: &Epc,

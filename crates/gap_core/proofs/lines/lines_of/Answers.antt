@@ -2,7 +2,7 @@ use Rattle.std.proofs.Common.{◌≡◌, ◌∙◌, ◌<◌, ◌++◌, ◌∷◌
 use Rattle.std.proofs.lemmas.List.{get_or_default}
 use Rattle.gap_core.specs.declared.gap_items.GapItem.{GapItem}
 use Rattle.gap_core.specs.declared.lines.GapLine.{GapLine}
-use Rattle.gap_core.proofs.LineSteps.{LinesTo, lines_begin, lines_end, lines_go_on, none_item}
+use Rattle.gap_core.proofs.LineSteps.{LinesTo, lines_begin, lines_count, lines_end, lines_go_on, none_item}
 use Rattle.gap_core.proofs.lines.lines_of.Goals as goal
 
 pub loop-start-init : goal.loop-start-init
@@ -16,5 +16,8 @@ loop-start-preserved c =
     lines_go_on c.args.items.now c.requires none_item c.loop-start.lines.items c.push_line.new.lines.items c.loop-start.start c.end_of_run-end.result c.loop-start.invariant c.end_of_run-end.ensures
     (c.in_ok-push_line.ensures ∙ ap (λ (g : GapItem). c.loop-start.lines.items ++ record { site = g.site; container = g.container; by = g.by; items = c.end_of_run-end.result - c.loop-start.start } ∷ []) is)
 
-pub returns : goal.returns
-returns c = lines_end c.args.items.now c.requires none_item c.loop-start.lines.items c.loop-start.start (omega (arith, c.loop-start-test.false)) c.loop-start.invariant
+pub returns-clause-lines : goal.returns-clause-lines
+returns-clause-lines c = lines_end c.args.items.now c.requires none_item c.loop-start.lines.items c.loop-start.start (omega (arith, c.loop-start-test.false)) c.loop-start.invariant
+
+pub returns-clause-items : goal.returns-clause-items
+returns-clause-items c = lines_count c.args.items.now c.requires none_item c.loop-start.lines.items c.loop-start.start (omega (arith, c.loop-start-test.false)) c.loop-start.invariant

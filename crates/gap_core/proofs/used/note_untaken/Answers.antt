@@ -1,0 +1,17 @@
+use Rattle.std.proofs.Common.{arith}
+use Rattle.std.specs.List.{Contains}
+use Rattle.gap_core.specs.Adding.{ByOneAt}
+use Rattle.gap_core.specs.Used.{IsLeftOf}
+use Rattle.gap_core.proofs.Additions.{more_before}
+use Rattle.gap_core.proofs.Turns.{all_at}
+use Rattle.gap_core.proofs.used.note_untaken.Goals as goal
+
+pub loop-place-preserved : goal.loop-place-preserved
+loop-place-preserved c =
+    more_before (ByOneAt c.args.inside.now (IsLeftOf c.args.site c.args.container.now c.args.inputs.now)) c.loop-place.place (Contains c.args.used.now.items) (Contains c.loop-place.used.items) (Contains c.note_item_at.new.used.items)
+    c.loop-place.invariant c.in_ok-note_item_at.ensures
+
+pub returns : goal.returns
+returns c =
+    all_at c.args.inside.now (IsLeftOf c.args.site c.args.container.now c.args.inputs.now) c.loop-place.place (Contains c.args.used.now.items) (Contains c.loop-place.used.items)
+    (omega (arith, c.loop-place-test.false, c.len-place-end.ensures)) c.loop-place.invariant
