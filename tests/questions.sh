@@ -3,7 +3,8 @@
 # which knows the events that were captured and nothing of how `recall` works:
 # - trace, forward and back, of each item at each site of small random chains with shipments, pallets and transformations in
 #   parts: the pairs, that each way is a shortest one, origins, what left the traced sites, --brief, and --events: the first
-#   events that relate the pairs of each step;
+#   events that relate the pairs of each step; and what of the items is missed;
+# - gaps: containers that a site shipped on and others packed, what was used without what lies in it, and what nobody saw come;
 # - items, of each site: which there are, how often they are named, and those that contain a text;
 # - status while a recall is open and once it has ended, with --exit-code; a report beside a trace of its root;
 # - start --dry-run, which tells what the start then does. No question changes a byte of a file.
@@ -37,17 +38,19 @@ import sys
 RECALL = os.environ["RECALL"]
 SITES = ["north", "east-1", "south_2"]
 answers = 0
+beside = ""
 asked = collections.Counter()
 
 
 def ask(*words, status=0):
     """What the program prints for these words, which ends so."""
-    global answers
+    global answers, beside
     answers += 1
     asked[words[0]] += 1
     ran = subprocess.run([RECALL, *words], capture_output=True, text=True, stdin=subprocess.DEVNULL)
     if ran.returncode != status:
         sys.exit(f"{' '.join(words)}: status {ran.returncode}, wanted {status}\n{ran.stdout}{ran.stderr}")
+    beside = ran.stderr
     return ran.stdout
 
 
@@ -124,6 +127,93 @@ def inside(events, item):
                 left += [child for child in event["children"] if child not in found]
                 found |= set(event["children"])
     return found
+
+
+def closed(starts, edges):
+    """The items, and all that lies in them by these pairs of a container and an item."""
+    found, left = set(starts), list(starts)
+    while left:
+        here = left.pop()
+        more = {child for parent, child in edges if parent == here} - found
+        found |= more
+        left += more
+    return found
+
+
+def shipped(own, place):
+    return {item for event in own if event["kind"] == "ship" and place in event["to"] for item in event["items"]}
+
+
+def packed(own):
+    return {(event["parent"], child) for event in own if event["kind"] == "pack" and event["action"] == "ADD" for child in event["children"]}
+
+
+def edges_of(known):
+    return {(parent, child) for parent, child, _ in known}
+
+
+def knowing(events):
+    """What is known at each site of packings, each with who packed: its own, and of each container that came what was known there."""
+    known = {site: {(*edge, site) for edge in packed(events[site])} for site in SITES}
+    grown = True
+    while grown:
+        grown = False
+        for site, to in itertools.permutations(SITES, 2):
+            came = closed(shipped(events[site], to), edges_of(known[site]))
+            new = {it for it in known[site] if it[0] in came} - known[to]
+            known[to] |= new
+            grown = grown or bool(new)
+    return known
+
+
+def find_gaps(events):
+    """The gaps: packed ones, used ones, unseen ones; and the missed items, each at a site."""
+    known = knowing(events)
+    gaps, used, unseen, missed = collections.defaultdict(set), collections.defaultdict(set), set(), set()
+    for site, own in events.items():
+        edges, mine = edges_of(known[site]), packed(own)
+        for place in {place for event in own if event["kind"] == "ship" for place in event["to"]} - {site}:
+            sent, told = closed(shipped(own, place), edges), closed(shipped(own, place), mine)
+            missed |= {(site, item) for item in sent - told}
+            for parent, child in edges - mine:
+                if parent in sent and child not in told:
+                    by = min(SITES.index(who) for p, c, who in known[site] if (p, c) == (parent, child))
+                    gaps[site, parent, SITES[by]].add(child)
+            if place in SITES:
+                unseen |= {(place, item, site) for item in shipped(own, place) if not any(item in names(event) for event in events[place])}
+        for event in own:
+            if event["kind"] == "make":
+                ins = set().union(*(e["ins"] for e in own if e is event or (e["kind"] == "make" and event["id"] and e["id"] == event["id"])))
+                for container in ins:
+                    for item in closed({container}, edges) - ins:
+                        used[site, container].add(item)
+    return gaps, used, unseen, missed
+
+
+def gaps(folder, events):
+    found, used, unseen, _ = find_gaps(events)
+    place = lambda it: (SITES.index(it[0]), key(it[1]), SITES.index(it[2]) if it[2:] else 0)
+    lines = [f"gap packed {s} {key(p)} by {by} items {len(found[s, p, by])}" for s, p, by in sorted(found, key=place)]
+    lines += [f"gap used {s} {key(c)} items {len(used[s, c])}" for s, c in sorted(used, key=place)]
+    lines += [f"gap unseen {s} {key(i)} from {u}" for s, i, u in sorted(unseen, key=place)]
+    items = sum(map(len, found.values()))
+    lines += [f"total packed {len(found)} items {items} used {len(used)} unseen {len(unseen)}"]
+    same(f"gaps {folder}", ask("gaps", folder).splitlines(), lines)
+    same("gaps: what is advised", "past the site" in beside, bool(found))
+    wanted = {
+        "items": items,
+        "packed": [{"by": by, "item": key(p), "items": len(found[s, p, by]), "site": s} for s, p, by in sorted(found, key=place)],
+        "unseen": [{"from": u, "item": key(i), "site": s} for s, i, u in sorted(unseen, key=place)],
+        "used": [{"item": key(c), "items": len(used[s, c]), "site": s} for s, c in sorted(used, key=place)],
+    }
+    same(f"gaps {folder} --json", json.loads(ask("gaps", folder, "--json", "--exit-code", status=5 if found or used or unseen else 0)), wanted)
+
+
+def hold_missed(what, pairs, missed):
+    """On the error stream stands how many of the pairs are missed at each site."""
+    counts = collections.Counter(site for site, _ in missed & set(pairs))
+    told = [line for line in beside.splitlines() if line.startswith("missed ")]
+    same(f"{what}: what is missed", told, [f"missed {counts[site]} at {site}" for site in SITES if counts[site]])
 
 
 def relate(events):
@@ -259,6 +349,7 @@ def hold_events_json(what, text, ways, events):
 
 def trace(folder, events):
     related, out = relate(events)
+    _, _, _, missed = find_gaps(events)
     converse = collections.defaultdict(set)
     for first, targets in list(related.items()):
         for second in targets:
@@ -271,6 +362,7 @@ def trace(folder, events):
             text = ask("trace", folder, site, item)
             head, ways, rest = read_trace(text)
             wanted = steps(related, root)
+            hold_missed(what, wanted, missed)
             same(f"{what}: head", head, ("forward", root))
             hold_ways(what, ways, wanted, related, False)
             left = [["outside", s, "uri", i, d] for s, i, d in sorted(out, key=lambda it: (SITES.index(it[0]), key(it[1]), it[2])) if (s, i) in wanted]
@@ -357,7 +449,9 @@ def recall_one(folder, events, site, item):
         if state == "ended":
             break
     same("the end", hold_detail(folder, recall)[0::2], ("ended", 0))
-    report, traced = ask("report", folder, recall).splitlines(), ask("trace", folder, site, item).splitlines()
+    report = ask("report", folder, recall).splitlines()
+    hold_missed(f"report {recall}", steps(relate(events)[0], (site, item)), find_gaps(events)[3])
+    traced = ask("trace", folder, site, item).splitlines()
     same("a report and a trace", report[1:], traced[1:])
     same("a report and a trace --brief", ask("report", folder, recall, "--brief").splitlines()[1:], ask("trace", folder, site, item, "--brief").splitlines()[1:])
     return {(s, i) for s, i in steps(relate(events)[0], (site, item))}
@@ -378,6 +472,7 @@ for number in range(int(os.environ["CHAINS"])):
         ask("capture", folder, site, f"{folder}.{site}.json")
     before = fingerprint(folder)
     trace(folder, events)
+    gaps(folder, events)
     list_items(folder, events, set())
     same("files after questions", fingerprint(folder), before)
     held = set()

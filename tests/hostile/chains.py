@@ -236,6 +236,8 @@ def commands(chains):
         Command("status-code", "question", chains.ended, ["status", "--wait", "1", "--json", "@", "--exit-code"], []),
         Command("items", "question", chains.whole, ["items", "@", "plant", "sgtin"], []),
         Command("items-json", "question", chains.whole, ["items", "--wait", "1", "--json", "@", "plant"], []),
+        Command("gaps", "question", chains.whole, ["gaps", "@"], []),
+        Command("gaps-json", "question", chains.whole, ["gaps", "--wait", "1", "--json", "@", "--exit-code"], []),
         Command("lint", "question", chains.whole, ["lint", "@/sites", f / "lines", f / "each", "--site", "plant"], []),
         Command("lint-json", "question", chains.whole, ["lint", "--json", "--max-bytes", "1000000", "@/sites", f / "each"], []),
         Command("help", "question", chains.whole, ["help", "run"], []),

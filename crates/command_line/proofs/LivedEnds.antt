@@ -29,7 +29,7 @@ use Rattle.command_line.specs.Leads.{FailsBy, LeadsTo}
 use Rattle.command_line.specs.Lives.{AreActsOfSites, LeadByActs}
 use Rattle.command_line.specs.declared.command_lines.Batch.{Batch}
 use Rattle.command_line.specs.declared.command_lines.FileCommand.{FileCommand}
-use Rattle.command_line.specs.declared.command_lines.FileCommand.TheVariants.{Init, Capture, Start, Run, Report, Audit, Trace, Recalls, Recall as OneRecall, Items}
+use Rattle.command_line.specs.declared.command_lines.FileCommand.TheVariants.{Init, Capture, Start, Run, Report, Audit, Trace, Recalls, Recall as OneRecall, Items, Gaps}
 use Rattle.command_line.specs.declared.lint_commands.LintFiles.{LintFiles}
 use Rattle.command_line.proofs.LivedAnswers.{after_asks, all_told, asks_behind, batch_failed, batch_taken, capture_failed, captured, has_run, refused_or, run_failed, site_told, start_failed, started}
 use Rattle.command_line.proofs.LivedCommands.{acted_unchanged, only_asked}
@@ -118,13 +118,14 @@ module _ {K : Type 0} (shown : K → Option Record) (may : K → Record → Type
     leads_acts (Start f site item true) output calls leads =
         asked_acts calls (asks_behind shown stored f.now _ _ (λ first its asks. after_asks shown stored f.now asks.0 (λ ss rest told. refused_or shown stored f.now told.1 (λ t. site_told shown stored f.now t.3))) output calls leads)
     leads_acts (Run f turns) output calls leads = λ sites old new many continued left. has_run shown may opens stored f.now sites old new many calls continued left knows failed turns output leads
-    leads_acts (Report f recall ways events) output calls leads = asked_acts calls (after_asks shown stored f.now leads.0 (λ ss rest told. refused_or shown stored f.now told.1 (λ t. all_told shown stored f.now t.2)))
+    leads_acts (Report f recall ways events) output calls leads = asked_acts calls (after_asks shown stored f.now leads (λ ss rest told. refused_or shown stored f.now told.1 (λ t. all_told shown stored f.now t.2)))
     leads_acts (Audit f) output calls leads = asked_acts calls (after_asks shown stored f.now leads (λ ss rest told. refused_or shown stored f.now told.1 (λ t. all_told shown stored f.now t.2)))
     leads_acts (Trace f site item back ways events) output calls leads =
-        asked_acts calls (asks_behind shown stored f.now _ _ (λ first its asks. after_asks shown stored f.now asks.0 (λ ss rest told. refused_or shown stored f.now told.1 (λ t. all_told shown stored f.now t.2))) output calls leads)
+        asked_acts calls (asks_behind shown stored f.now _ _ (λ first its asks. after_asks shown stored f.now asks (λ ss rest told. refused_or shown stored f.now told.1 (λ t. all_told shown stored f.now t.2))) output calls leads)
     leads_acts (Recalls f coded) output calls leads = asked_acts calls (after_asks shown stored f.now leads.0 (λ ss rest told. refused_or shown stored f.now told.1 (λ t. all_told shown stored f.now t.2)))
     leads_acts (OneRecall f recall coded) output calls leads = asked_acts calls (after_asks shown stored f.now leads.0 (λ ss rest told. refused_or shown stored f.now told.1 (λ t. all_told shown stored f.now t.2)))
     leads_acts (Items f site text) output calls leads = asked_acts calls (after_asks shown stored f.now leads.0 (λ ss rest told. refused_or shown stored f.now told.1 (λ t. site_told shown stored f.now t.3)))
+    leads_acts (Gaps f coded) output calls leads = asked_acts calls (after_asks shown stored f.now leads.0 (λ ss rest told. refused_or shown stored f.now told.1 (λ t. all_told shown stored f.now t.2)))
 
     fails_acts : (command : FileCommand) (fault : Fault) (calls : List (FileCall K)) → FailsBy shown failed may reopens gives_up stored command fault calls → AreActsOfSites shown may calls
     fails_acts (Init f list) fault calls (inl vain) = asked_acts calls vain.harmless
@@ -139,6 +140,7 @@ module _ {K : Type 0} (shown : K → Option Record) (may : K → Record → Type
     fails_acts (Recalls f coded) fault calls fails = asked_acts calls fails.harmless
     fails_acts (OneRecall f recall coded) fault calls fails = asked_acts calls fails.harmless
     fails_acts (Items f site text) fault calls fails = asked_acts calls fails.harmless
+    fails_acts (Gaps f coded) fault calls fails = asked_acts calls fails.harmless
 
   -- documents that are looked through
   lints_ask : {S : Type 0} (takes : S → List ℕ → Lint → S → Type 0) (list : List ℕ) (site : Option (List ℕ)) (paths : List (List ℕ)) (heard hears : S) (output : LintOutput) (calls : List (FileCall K)) → Lints takes list site paths heard hears output calls → OnlyAsks calls

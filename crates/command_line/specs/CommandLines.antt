@@ -24,7 +24,7 @@ use Rattle.command_line.specs.declared.command_lines.Batch.{Batch}
 use Rattle.command_line.specs.declared.command_lines.FileCommand.{FileCommand}
 use Rattle.command_line.specs.declared.command_lines.Terms.{Terms}
 use Rattle.command_line.specs.declared.lint_commands.LintFiles.{LintFiles}
-use Rattle.command_line.specs.declared.command_lines.FileCommand.TheVariants.{Init, Capture, Start, Run, Report, Audit, Trace, Recalls, Recall, Items}
+use Rattle.command_line.specs.declared.command_lines.FileCommand.TheVariants.{Init, Capture, Start, Run, Report, Audit, Trace, Recalls, Recall, Items, Gaps}
 
 -- the words of a batch
 abbrev pub words_of : Batch → List (List ℕ)
@@ -152,6 +152,9 @@ trace =
 abbrev pub status : App
 status = with_rule (with_rule (on_folder (codes "status")) (new_rule (codes "recall"))) (flag (codes "exit-code"))
 
+abbrev pub gaps : App
+gaps = with_rule (on_folder (codes "gaps")) (flag (codes "exit-code"))
+
 -- the text may be left out
 abbrev pub items : App
 items = with_rule (with_rule (on_folder (codes "items")) (required (codes "site"))) (new_rule (codes "text"))
@@ -176,7 +179,7 @@ abbrev pub versioned : App → App
 versioned a = record a { top = record a.top { has_version = true } }
 
 abbrev pub recall : App
-recall = with_command (with_command (with_command (with_command changing trace) status) items) lint where
+recall = with_command (with_command (with_command (with_command (with_command changing trace) status) items) lint) gaps where
   -- those that came first
   changing : App
   changing =
@@ -307,6 +310,7 @@ IsCommand (Recall folder recall coded) name rows =
     (name ≡ codes "status") × Gives rows (codes "dir") folder.now × Gives rows (codes "recall") recall.now × (IsTrue coded ↔ IsSet rows (codes "exit-code"))
 IsCommand (Items folder site text) name rows =
     (name ≡ codes "items") × Gives rows (codes "dir") folder.now × Gives rows (codes "site") site.now × GivesOrNone rows (codes "text") text.now
+IsCommand (Gaps folder coded) name rows = (name ≡ codes "gaps") × Gives rows (codes "dir") folder.now × (IsTrue coded ↔ IsSet rows (codes "exit-code"))
 
 -- documents are captured, or recalls started that aren't dry
 abbrev pub GivesWords : Text → List Row → WordKind → List Text → Type 0

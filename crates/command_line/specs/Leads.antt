@@ -20,6 +20,7 @@ use Rattle.site_folders.specs.Refusals.{IsNoSite}
 use Rattle.folder_questions.specs.Asked.{AsksItem, AsksRecall, RefusesItem, RefusesRecall}
 use Rattle.folder_questions.specs.Audits.{AnswersAudit}
 use Rattle.folder_questions.specs.DryStarts.{AnswersDryStart}
+use Rattle.folder_questions.specs.Gaps.{AnswersGaps}
 use Rattle.folder_questions.specs.Reports.{AnswersReport}
 use Rattle.folder_questions.specs.SiteItems.{AnswersItems}
 use Rattle.folder_questions.specs.Standings.{AnswersRecall, AnswersRecalls}
@@ -29,7 +30,7 @@ use Rattle.folder_commands.specs.Runs.{RunFails, RunsAt}
 use Rattle.folder_commands.specs.Steps.{CaptureFails, CapturesAt, StartFails, StartsAt}
 use Rattle.command_line.specs.UnknownItems.{AndWho}
 use Rattle.command_line.specs.declared.command_lines.FileCommand.{FileCommand}
-use Rattle.command_line.specs.declared.command_lines.FileCommand.TheVariants.{Init, Capture, Start, Run, Report, Audit, Trace, Recalls, Recall as OneRecall, Items}
+use Rattle.command_line.specs.declared.command_lines.FileCommand.TheVariants.{Init, Capture, Start, Run, Report, Audit, Trace, Recalls, Recall as OneRecall, Items, Gaps}
 
 -- an outcome beside which nothing is noted
 abbrev pub Plainly : {K : Type 0} → (List Site → Outcome → List (FileCall K) → Type 0) → Output → List (FileCall K) → Type 0
@@ -56,20 +57,26 @@ module _ {K : Type 0} (shown : K → Option Record) (stored : K → Type 0) (fol
       (AsksAll {Q = Recall} shown stored folder (λ sites outcome. RefusesRecall recall sites outcome) (λ sites r. AsksRecall recall sites r)
       (λ r rs outcome. AnswersRecall rs r coded outcome))
 
-  -- what is quarantined for the recall of a text, how it got there, and what left
+  -- what is quarantined for the recall of a text, how it got there, and what left; and what that misses
   abbrev pub Reports : List ℕ → Ways → Bool → Output → List (FileCall K) → Type 0
-  Reports recall ways events =
-      Plainly
-      (AsksAll {Q = Recall} shown stored folder (λ sites outcome. RefusesRecall recall sites outcome) (λ sites r. AsksRecall recall sites r)
-      (λ r rs outcome. AnswersReport rs r ways events outcome))
+  Reports recall ways events output =
+      AsksAll {Q = Recall} {A = Outcome × Notes} shown stored folder (λ sites told. RefusesRecall recall sites told.0 × (told.1 ≡ Nothing)) (λ sites r. AsksRecall recall sites r)
+      (λ r rs told. AnswersReport rs r ways events told.0 told.1)
+      output.sites (output.outcome, output.notes)
 
-  -- where the item at the site of a name went, or came from
+  -- where the item at the site of a name went, or came from; and what is missed of where it went
   abbrev pub Traces : List ℕ → Spelled → Bool → Ways → Bool → Output → List (FileCall K) → Type 0
-  Traces name item back ways events =
-      Plainly
-      (AsksAll {Q = ℕ × List ℕ} shown stored folder (λ sites outcome. RefusesItem name item sites outcome)
+  Traces name item back ways events output =
+      AsksAll {Q = ℕ × List ℕ} {A = Outcome × Notes} shown stored folder (λ sites told. RefusesItem name item sites told.0 × (told.1 ≡ Nothing))
       (λ sites asked. AsksItem name item sites asked.0 asked.1)
-      (λ asked rs outcome. AnswersTrace rs asked.0 asked.1 back ways events outcome))
+      (λ asked rs told. AnswersTrace rs asked.0 asked.1 back ways events told.0 told.1)
+      output.sites (output.outcome, output.notes)
+
+  -- what sites tell nothing of that others packed, or sent them
+  abbrev pub FindsGaps : Bool → Output → List (FileCall K) → Type 0
+  FindsGaps coded =
+      Plainly
+      (AsksAll {Q = ⊤} shown stored folder (λ sites outcome. ⊥) (λ sites asked. ⊤) (λ asked rs outcome. AnswersGaps rs coded outcome))
 
   -- what the start of a recall of the item would do at the site of a name
   abbrev pub DryStarts : List ℕ → Spelled → Output → List (FileCall K) → Type 0
@@ -105,6 +112,7 @@ module _ {K : Type 0} (knows : List ℕ → List ℕ → Type 0) (shown : K → 
   LeadsTo (Recalls folder coded) output calls = AllStand shown stored folder.now coded output calls
   LeadsTo (OneRecall folder recall coded) output calls = OneStands shown stored folder.now recall.now coded output calls
   LeadsTo (Items folder site text) output calls = KnownItems shown stored folder.now site.now text.now output calls
+  LeadsTo (Gaps folder coded) output calls = FindsGaps shown stored folder.now coded output calls
 
 module _ {K G : Type 0} (shown : K → Option Record) (failed : K → ℕ) (may : K → Record → Type 0) (reopens : K → Result K (Unopened K) → Type 0) (gives_up : G → ℕ → ℕ → Type 0) (stored : K → Type 0) where
   -- the calls of the command, which lead to this fault: a question changed nothing
@@ -120,3 +128,4 @@ module _ {K G : Type 0} (shown : K → Option Record) (failed : K → ℕ) (may 
   FailsBy (Recalls folder coded) fault calls = EndsInVain shown folder.now fault calls
   FailsBy (OneRecall folder recall coded) fault calls = EndsInVain shown folder.now fault calls
   FailsBy (Items folder site text) fault calls = EndsInVain shown folder.now fault calls
+  FailsBy (Gaps folder coded) fault calls = EndsInVain shown folder.now fault calls

@@ -120,6 +120,11 @@ pub(crate) enum FileCommand<'a> {
     Audit {
         folder: &'a str,
     },
+    /// It is asked for the gaps of what the sites captured, and perhaps for a status that tells that there are any.
+    Gaps {
+        folder: &'a str,
+        coded: bool,
+    },
 }
 
 /// Reads the words of a command line, the program's name first.
@@ -363,6 +368,9 @@ fn file_command<'a>(name: &str, given: &ArgMatches<'a>) -> Option<FileCommand<'a
         })
     } else if name == "audit" {
         Some(FileCommand::Audit { folder })
+    } else if name == "gaps" {
+        let coded = is_set(given, "exit-code");
+        Some(FileCommand::Gaps { folder, coded })
     } else if name == "status" {
         Some(status_command(folder, given))
     } else {

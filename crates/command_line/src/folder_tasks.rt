@@ -12,7 +12,7 @@ use crate::command_lines::FileCommand;
 use event_json::Sites;
 use folder_commands::{capture, init, run_sites, start};
 use folder_questions::{
-    Audit, DryStart, ItemsOf, KnowersOf, ReportOf, StatusOf, Statuses, TraceOf,
+    Audit, DryStart, GapsOf, ItemsOf, KnowersOf, ReportOf, StatusOf, Statuses, TraceOf,
 };
 use item_spellings::Spelled;
 use keeper_core::SiteKeeper;
@@ -75,7 +75,7 @@ pub(crate) fn do_command<
                 ways: *ways,
                 events: *events,
             };
-            Ok(plain(ask(alloc, files, folder, &question)?))
+            Ok(with_notes(ask(alloc, files, folder, &question)?))
         }
         FileCommand::Audit { folder } => Ok(with_notes(ask(alloc, files, folder, &Audit {})?)),
         FileCommand::Trace {
@@ -94,7 +94,7 @@ pub(crate) fn do_command<
                 ways: *ways,
                 events: *events,
             };
-            let first = plain(ask(alloc, files, folder, &question)?);
+            let first = with_notes(ask(alloc, files, folder, &question)?);
             Ok(with_knowers(alloc, files, folder, &KnowersOf { site, item }, first))
         }
         FileCommand::Recalls { folder, coded } => {
@@ -114,6 +114,10 @@ pub(crate) fn do_command<
         }
         FileCommand::Items { folder, site, text } => {
             Ok(plain(ask_site(alloc, files, folder, &ItemsOf { site, text })?))
+        }
+        FileCommand::Gaps { folder, coded } => {
+            let question = GapsOf { coded: *coded };
+            Ok(plain(ask(alloc, files, folder, &question)?))
         }
     }
 }

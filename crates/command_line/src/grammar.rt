@@ -2,7 +2,7 @@
 
 ghost use Rattle.std.specs.Prelude.{◌≡◌, false, IfOk, codes};
 ghost use Rattle.clap.specs.Words.{app_of, new_rule, rule_of};
-ghost use Rattle.command_line.specs.CommandLines.{audit, capture, capturing, epcs, files, flag, folder, init, items, lint, max_bytes, on_folder, recall, report, required, run, sim, start, status, trace, turns, wait};
+ghost use Rattle.command_line.specs.CommandLines.{audit, capture, capturing, epcs, files, flag, folder, gaps, init, items, lint, max_bytes, on_folder, recall, report, required, run, sim, start, status, trace, turns, wait};
 
 use crate::helps;
 use clap::builder::ValueParser;
@@ -30,7 +30,8 @@ pub(crate) fn recall<'a>(alloc: Global) -> Result<Command<'a>, AllocError>
         .subcommand(trace(alloc)?)?
         .subcommand(status(alloc)?)?
         .subcommand(items(alloc)?)?
-        .subcommand(lint(alloc)?)
+        .subcommand(lint(alloc)?)?
+        .subcommand(gaps(alloc)?)
 }
 
 /// An argument that has to be there.
@@ -347,6 +348,16 @@ fn status<'a>(alloc: Global) -> Result<Command<'a>, AllocError>
             "exit-code",
             "End with status 5 while a recall is open",
         ))
+}
+
+fn gaps<'a>(alloc: Global) -> Result<Command<'a>, AllocError>
+    ensures { IfOk result (λ command. app_of command ≡ gaps) }
+{
+    on_folder(alloc, "gaps", helps::GAPS_ABOUT, helps::GAPS_EXAMPLE)?.arg(flag(
+        alloc,
+        "exit-code",
+        "End with status 5 where there are gaps",
+    ))
 }
 
 fn items<'a>(alloc: Global) -> Result<Command<'a>, AllocError>

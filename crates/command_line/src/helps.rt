@@ -63,6 +63,7 @@ Questions that change nothing:
   recall trace chain dairy <epc> --back          where it came from
   recall status chain                            how each recall stands, and what it waits for
   recall items chain dairy 400                   the items of a site, found by a part of their text
+  recall gaps chain                              what sites shipped on that others packed, unseen by recalls
   recall lint sites.txt monday.json              all that is wrong in documents, before they are captured
 
 A list of sites has a line for each: `site <name> <address>..`, where an address is a destination of
@@ -70,7 +71,8 @@ shipments that stands for the site. An item is an EPC, as urn:epc:id:sgtin:06141
 Link or any other text without spaces. A recall is named by its site and its number there, as dairy#1.
 
 Status: 0 done, 1 something was refused, 2 bad command line, 3 a fault, named on the error stream,
-4 an audit found a discrepancy, 5 a recall is open, where `status --exit-code` asks for it.
+4 an audit found a discrepancy, 5 what `--exit-code` asks for: `status`, a recall is open; `gaps`, there
+are any.
 
 `recall <command> --help` says more of a command, with an example.";
 
@@ -255,6 +257,26 @@ Examples:
   recall items chain dairy 'sgtin 00614141123452'
 
 Status: 0 done, 1 refused (NoSite: the folder lists no such site), 3 a fault.";
+
+pub(crate) const GAPS_ABOUT: &str =
+    "Finds what sites tell nothing of, so that a recall would miss it: goods in others' containers";
+
+pub(crate) const GAPS_EXAMPLE: &str = "\
+A site that ships a container on which another one packed has no event that tells what lies in it, so that a
+recall of that finds nothing past this site. What was packed is known from the site that the container came
+from, over however many sites. Prints, by site and item,
+  gap packed <site> <container> by <site> items <count>    shipped on, by one that didn't pack these items
+  gap used <site> <container> items <count>                went into a transformation, and these items not
+  gap unseen <site> <item> from <site>                     was shipped there, and no event there names it
+and then `total packed <count> items <count> used <count> unseen <count>`. A packed gap is closed where the
+site that shipped the container captures its packing (AggregationEvent, ADD), as the other one did; do so
+before a recall reaches it. `recall trace` and `recall report` note what of their items is `missed`.
+
+Examples:
+  recall gaps chain
+  recall gaps chain --exit-code --json
+
+Status: 0 done, 3 a fault, and with `--exit-code` 5 where there are gaps.";
 
 pub(crate) const LINT_ABOUT: &str =
     "Tells all that is wrong or strange in documents, before they are captured";

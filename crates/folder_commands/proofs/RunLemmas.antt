@@ -133,6 +133,7 @@ ran_or_not shown failed may turns old new (outcomes.Waiting detail coded) end an
 ran_or_not shown failed may turns old new (outcomes.Known site items) end answers = absurd answers
 ran_or_not shown failed may turns old new (outcomes.WouldStart plan ended) end answers = absurd answers
 ran_or_not shown failed may turns old new (outcomes.Audited recalls) end answers = absurd answers
+ran_or_not shown failed may turns old new (outcomes.Gaps gaps coded) end answers = absurd answers
 ran_or_not shown failed may turns old new (outcomes.Refused whys) end answers = absurd answers
 
 -- so it is of a run that broke off

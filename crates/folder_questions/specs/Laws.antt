@@ -1,16 +1,26 @@
--- What an audit gives.
-use Rattle.std.specs.Prelude.{◌≡◌, ℕ, List, [], Some, slice_get}
+-- What an audit gives, and what a trace.
+use Rattle.std.specs.Prelude.{◌≡◌, ◌↔◌, ℕ, Bool, false, List, [], Option, Some, Contains, slice_get}
+use mathlib.Core.Logic.{inr}
 use Rattle.std.specs.declared.vec.Vec.{Vec}
 use Rattle.std.specs.Global.{Global}
 use Rattle.frame_core.specs.Numbers.{Recall}
 use Rattle.recall_outcomes.specs.declared.notes.Notes.TheVariants.{Nothing}
 use Rattle.recall_outcomes.specs.declared.outcomes.AuditedRecall.{AuditedRecall}
-use Rattle.recall_outcomes.specs.declared.outcomes.Outcome.TheVariants.{Audited}
+use Rattle.recall_outcomes.specs.declared.outcomes.Outcome.TheVariants.{Audited, Traced}
+use Rattle.recall_outcomes.specs.declared.outcomes.Ways.{Ways}
+use Rattle.report_core.specs.declared.traces.Trace.{Trace}
+use Rattle.report_core.specs.declared.trail_events.StepEvents.{StepEvents}
 use Rattle.site_core.specs.Records.{Record, IsSound}
 use Rattle.world_core.specs.EndingLaws.{CanEnd, HasBegun, HasNumbersFor}
 use Rattle.world_core.specs.Faults.{AreOneWorld}
 use Rattle.world_core.specs.Worlds.{WorldState, records}
 use Rattle.folder_questions.specs.Audits.{AnswersAudit}
+use Rattle.folder_questions.specs.Traces.{AnswersTrace}
+use Rattle.site_recovery.specs.Laws.{captured_of}
+use Rattle.trace_core.specs.Gaps.{IsSent, WideRelated, by_known, by_own}
+use Rattle.trace_core.specs.Relations.{Reaches}
+use Rattle.trace_core.specs.Sites.{SiteEvents}
+use Rattle.trace_core.specs.declared.pairs.Pair.{Pair}
 
 -- The records are those of all sites, as the files of a folder show them, and no frame is on its way. Where an audit of them notes
 -- nothing, no recall is stuck: as long as numbers are left, frames end it, whichever sites are open.
@@ -24,3 +34,13 @@ AuditedRecallsCanEnd =
     → HasBegun recall root (records world)
     → ((place : ℕ) (r : Record) → slice_get (records world) place ≡ Some r → HasNumbersFor recall r)
     → CanEnd recall root world
+
+-- A trace beside which nothing is noted has just the pairs that the item reaches by all packings that are known at the sites; and of each
+-- of them the item left for just those places outside for which it is known to have left.
+abbrev pub UnnotedTracesMissNothing : Type 0
+UnnotedTracesMissNothing =
+    (records : List Record) (site : ℕ) (item : List ℕ) (ways : Ways) (events : Bool) (trace : Trace) (told : Ways) (behind : Option (Vec (List StepEvents) Global))
+    → AnswersTrace records site item false ways events (Traced trace told behind) Nothing
+    → ((p : Pair) → Contains trace.pairs p ↔ Reaches (WideRelated (captured_of records)) trace.root p)
+    × ((s : SiteEvents) (i text : List ℕ) → Contains (captured_of records) s → Contains trace.pairs (record { site = s.me; item = i })
+    → IsSent (by_known (captured_of records)) s i (inr text) ↔ IsSent by_own s i (inr text))

@@ -1,6 +1,7 @@
 pub mod Asked
 pub mod Audits
 pub mod DryStarts
+pub mod Gaps
 pub mod Knowers
 pub mod Laws
 pub mod Reports

@@ -5,6 +5,7 @@
 mod asked;
 mod audits;
 mod dry_starts;
+mod gaps;
 mod knowers;
 pub mod laws;
 mod reports;
@@ -15,6 +16,7 @@ mod trail_events;
 
 pub use audits::Audit;
 pub use dry_starts::DryStart;
+pub use gaps::GapsOf;
 pub use knowers::KnowersOf;
 pub use reports::ReportOf;
 pub use site_items::ItemsOf;

@@ -1,6 +1,6 @@
 //! `report`: what is quarantined under a recall, how it came there, and what left the traced sites.
 
-ghost use Rattle.std.specs.Prelude.{IfOk, IfErr, map};
+ghost use Rattle.std.specs.Prelude.{◌≡◌, IfOk, IfErr, map};
 ghost use Rattle.report_core.specs.Reports.{IsReport, TellsFault};
 ghost use Rattle.report_core.specs.TrailEvents.{or_no_pairs};
 ghost use Rattle.site_recovery.specs.Checking.{records_at, world_at};
@@ -8,16 +8,17 @@ ghost use Rattle.site_recovery.specs.FittingAt.{AreAllSites};
 ghost use Rattle.folder_questions.specs.TrailEvents.{TellsEvents, steps_to};
 
 use crate::asked::recall_at;
+use crate::gaps::missed_notes;
 use crate::trail_events::is_brief;
 use event_json::{Sequence, Sites};
 use frame_core::RecallId;
-use recall_outcomes::{CommandRefusal, Outcome, Ways};
+use recall_outcomes::{CommandRefusal, Notes, Outcome, Ways};
 use report_core::{RecallReport, ReportFault, StepEvents, report, report_with_events};
 use site_core::SiteState;
 use site_folders::{Question, refusal};
 use std::alloc::{AllocError, Global};
 
-/// The report of the recall that a text names.
+/// The report of the recall that a text names; and beside that, what it misses.
 #[derive(Drop)]
 pub struct ReportOf<'a> {
     pub recall: &'a str,
@@ -29,19 +30,28 @@ pub struct ReportOf<'a> {
 impl Question for ReportOf<'_> {
     ghost use Rattle.folder_questions.specs.Asked.{AsksRecall, RefusesRecall};
     ghost use Rattle.folder_questions.specs.Reports.{AnswersReport};
+    ghost use Rattle.recall_outcomes.specs.declared.notes.Notes.TheVariants.{Nothing};
 
     type Asked = RecallId;
 
-    type Answer = Outcome;
+    type Answer = (Outcome, Notes);
 
-    ghost refuses = { λ q sites outcome. RefusesRecall q.recall.now sites outcome };
+    ghost refuses = { λ q sites told. RefusesRecall q.recall.now sites told.0 × (told.1 ≡ Nothing) };
 
     ghost asks = { λ q sites recall. AsksRecall q.recall.now sites recall };
 
-    ghost answers = { λ q recall rs outcome. AnswersReport rs recall q.ways q.events outcome };
+    ghost answers = { λ q recall rs told.
+        AnswersReport rs recall q.ways q.events told.0 told.1 };
 
-    fn read(&self, alloc: Global, sites: &Sites) -> Result<Result<RecallId, Outcome>, AllocError> {
-        recall_at(alloc, sites, self.recall)
+    fn read(
+        &self,
+        alloc: Global,
+        sites: &Sites,
+    ) -> Result<Result<RecallId, (Outcome, Notes)>, AllocError> {
+        match recall_at(alloc, sites, self.recall)? {
+            Ok(recall) => Ok(Ok(recall)),
+            Err(refused) => Ok(Err((refused, Notes::Nothing))),
+        }
     }
 
     fn answer(
@@ -49,15 +59,24 @@ impl Question for ReportOf<'_> {
         alloc: Global,
         recall: RecallId,
         records: &[&SiteState],
-    ) -> Result<Outcome, AllocError> {
+    ) -> Result<(Outcome, Notes), AllocError> {
         match told_report(alloc, records, recall, self.ways, self.events) {
-            Ok((report, events)) => Ok(Outcome::Reported {
-                recall,
-                report,
-                ways: self.ways,
-                events,
-            }),
-            Err(ReportFault::UnknownRecall) => refusal(alloc, CommandRefusal::UnknownRecall),
+            Ok((report, events)) => {
+                let notes = missed_notes(alloc, records, report.pairs.as_slice())?;
+                let outcome = Outcome::Reported {
+                    recall,
+                    report,
+                    ways: self.ways,
+                    events,
+                };
+                Ok((outcome, notes))
+            }
+            Err(ReportFault::UnknownRecall) => {
+                Ok((
+                    refusal(alloc, CommandRefusal::UnknownRecall)?,
+                    Notes::Nothing,
+                ))
+            }
             Err(ReportFault::NoMemory) => Err(AllocError),
         }
     }

@@ -11,11 +11,12 @@ ghost use Rattle.folder_questions.specs.Traces.{AnswersTrace};
 ghost use Rattle.folder_questions.specs.TrailEvents.{TellsEvents, steps_from, steps_to};
 
 use crate::asked::item_at;
+use crate::gaps::missed_notes;
 use crate::trail_events::is_brief;
 use epc_core::Epc;
 use event_json::{Sequence, SiteNo, Sites};
 use item_spellings::Spelled;
-use recall_outcomes::{CommandRefusal, Outcome, Ways};
+use recall_outcomes::{CommandRefusal, Notes, Outcome, Ways};
 use report_core::{
     BackTrace, StepEvents, Trace, TraceFault, trace, trace_back, trace_back_with_events,
     trace_with_events,
@@ -24,7 +25,7 @@ use site_core::{Refusal, SiteState};
 use site_folders::{Question, refusal};
 use std::alloc::{AllocError, Global};
 
-/// Where an item at the site of a name went, or where it came from.
+/// Where an item at the site of a name went, or where it came from; and beside that, what is missed of where it went.
 #[derive(Drop)]
 pub struct TraceOf<'a> {
     pub site: &'a str,
@@ -38,24 +39,28 @@ pub struct TraceOf<'a> {
 impl Question for TraceOf<'_> {
     ghost use Rattle.folder_questions.specs.Asked.{AsksItem, RefusesItem};
     ghost use Rattle.folder_questions.specs.Traces.{AnswersTrace};
+    ghost use Rattle.recall_outcomes.specs.declared.notes.Notes.TheVariants.{Nothing};
 
     type Asked = (SiteNo, Epc);
 
-    type Answer = Outcome;
+    type Answer = (Outcome, Notes);
 
-    ghost refuses = { λ q sites outcome. RefusesItem q.site.now q.item sites outcome };
+    ghost refuses = { λ q sites told. RefusesItem q.site.now q.item sites told.0 × (told.1 ≡ Nothing) };
 
     ghost asks = { λ q sites asked. AsksItem q.site.now q.item sites asked.0 asked.1 };
 
-    ghost answers = { λ q asked rs outcome.
-        AnswersTrace rs asked.0 asked.1 q.back q.ways q.events outcome };
+    ghost answers = { λ q asked rs told.
+        AnswersTrace rs asked.0 asked.1 q.back q.ways q.events told.0 told.1 };
 
     fn read(
         &self,
         alloc: Global,
         sites: &Sites,
-    ) -> Result<Result<(SiteNo, Epc), Outcome>, AllocError> {
-        item_at(alloc, sites, self.site, &self.item)
+    ) -> Result<Result<(SiteNo, Epc), (Outcome, Notes)>, AllocError> {
+        match item_at(alloc, sites, self.site, &self.item)? {
+            Ok(asked) => Ok(Ok(asked)),
+            Err(refused) => Ok(Err((refused, Notes::Nothing))),
+        }
     }
 
     fn answer(
@@ -63,7 +68,7 @@ impl Question for TraceOf<'_> {
         alloc: Global,
         asked: (SiteNo, Epc),
         records: &[&SiteState],
-    ) -> Result<Outcome, AllocError> {
+    ) -> Result<(Outcome, Notes), AllocError> {
         let (site, item) = asked;
         if self.back {
             back_of(alloc, records, site, &item, self.ways, self.events)
@@ -81,18 +86,22 @@ fn forward_of(
     item: &Epc,
     ways: Ways,
     events: bool,
-) -> Result<Outcome, AllocError>
+) -> Result<(Outcome, Notes), AllocError>
     requires all { AreAllSites (records_at records.now) }
-    ensures answered { IfOk result (AnswersTrace (records_at records.now) site item.now false ways
-        events) }
+    ensures answered { IfOk result (λ told. AnswersTrace (records_at records.now) site item.now
+        false ways events told.0 told.1) }
 {
     match told_trace(alloc, records, site, item, ways, events) {
-        Ok((trace, events)) => Ok(Outcome::Traced {
-            trace,
-            ways,
-            events,
-        }),
-        Err(fault) => untraced(alloc, fault),
+        Ok((trace, events)) => {
+            let notes = missed_notes(alloc, records, trace.pairs.as_slice())?;
+            let outcome = Outcome::Traced {
+                trace,
+                ways,
+                events,
+            };
+            Ok((outcome, notes))
+        }
+        Err(fault) => Ok((untraced(alloc, fault)?, Notes::Nothing)),
     }
 }
 
@@ -128,18 +137,21 @@ fn back_of(
     item: &Epc,
     ways: Ways,
     events: bool,
-) -> Result<Outcome, AllocError>
+) -> Result<(Outcome, Notes), AllocError>
     requires all { AreAllSites (records_at records.now) }
-    ensures answered { IfOk result (AnswersTrace (records_at records.now) site item.now true ways
-        events) }
+    ensures answered { IfOk result (λ told. AnswersTrace (records_at records.now) site item.now
+        true ways events told.0 told.1) }
 {
     match told_back(alloc, records, site, item, ways, events) {
-        Ok((trace, events)) => Ok(Outcome::TracedBack {
-            trace,
-            ways,
-            events,
-        }),
-        Err(fault) => untraced(alloc, fault),
+        Ok((trace, events)) => {
+            let outcome = Outcome::TracedBack {
+                trace,
+                ways,
+                events,
+            };
+            Ok((outcome, Notes::Nothing))
+        }
+        Err(fault) => Ok((untraced(alloc, fault)?, Notes::Nothing)),
     }
 }
 

@@ -23,6 +23,9 @@ use Rattle.event_json.specs.declared.doc_faults.DocField.TheVariants as fields
 use Rattle.event_json.specs.declared.site_lists.SitesFault.{SitesFault}
 use Rattle.event_json.specs.declared.site_lists.SitesFault.TheVariants as faults
 use Rattle.frame_core.specs.Numbers.{Message, Recall}
+use Rattle.gap_core.specs.declared.lines.GapLine.{GapLine}
+use Rattle.gap_core.specs.declared.lines.Gaps.{Gaps}
+use Rattle.gap_core.specs.declared.unseen.UnseenItem.{UnseenItem}
 use Rattle.item_spellings.specs.Names.{scan_fault_name}
 use Rattle.item_spellings.specs.declared.faults.ScanFault.{ScanFault}
 use Rattle.item_spellings.specs.declared.faults.ScanFault.TheVariants as scans
@@ -48,8 +51,8 @@ use Rattle.site_core.specs.declared.outcomes.Refusal.{Refusal}
 use Rattle.site_core.specs.declared.outcomes.Refusal.TheVariants as steps
 use Rattle.site_recovery.specs.declared.checking.Misfit.{Misfit}
 use Rattle.trace_core.specs.declared.pairs.Pair.{Pair}
-use Rattle.outcome_forms.specs.Json.{Shown, whole, before, behind, account_json, audited_json, beside_json, detail_json, effects_json, engaged_json, event_json, known_json, line_members, list_of, misfit_json, outcome_json, outside_json, pair_json, part_json, ran_json, shown_members, shown_way, standing_json, status_json, step_json, step_members, text_or_null, titled_json, trail_json, verdict_json, waiting_json, why_json, with_events}
-use Rattle.outcome_forms.specs.Telling.{AccountIsOf, AuditedIsOf, DetailIsOf, EffectsAreOf, EndsSo, MessageIsOf, OutsideIsOf, PairIsOf, PartIsOf, RecallIsOf, SomeIsOf, StandingIsOf, StepIsOf, TellsAccount, TellsWhy, TitleIsOf, ValuesTellKinds, ValuesTellOutcomes, VerdictIsOf, WaitingIsOf, WhyIsOf, kind_of, shown_part}
+use Rattle.outcome_forms.specs.Json.{Shown, whole, before, behind, account_json, audited_json, beside_json, detail_json, effects_json, engaged_json, event_json, gaps_json, known_json, line_members, list_of, misfit_json, outcome_json, outside_json, packed_json, pair_json, part_json, ran_json, shown_members, shown_way, standing_json, status_json, step_json, step_members, text_or_null, titled_json, trail_json, unseen_json, used_json, verdict_json, waiting_json, why_json, with_events}
+use Rattle.outcome_forms.specs.Telling.{AccountIsOf, AreSameGaps, AuditedIsOf, DetailIsOf, EffectsAreOf, EndsSo, GapIsOf, GapsAreOf, MessageIsOf, OutsideIsOf, PairIsOf, PartIsOf, RecallIsOf, SomeIsOf, StandingIsOf, StepIsOf, TellsAccount, TellsWhy, TitleIsOf, UnseenIsOf, UsedIsOf, ValuesTellKinds, ValuesTellOutcomes, VerdictIsOf, WaitingIsOf, WhyIsOf, kind_of, shown_part}
 use Rattle.trace_core.specs.Trails.{before_last}
 use Rattle.report_forms.specs.Accounts.{Account, Part, way_pairs}
 use Rattle.report_forms.specs.declared.accounts.Title.{Title}
@@ -59,6 +62,7 @@ use Rattle.report_forms.specs.declared.accounts.Way.TheVariants.{Unknown, From, 
 use Rattle.recall_outcomes.specs.declared.outcomes.AuditedRecall.{AuditedRecall}
 use Rattle.recall_outcomes.specs.declared.outcomes.CommandRefusal.{CommandRefusal}
 use Rattle.recall_outcomes.specs.declared.outcomes.CommandRefusal.TheVariants as refusals
+use Rattle.recall_outcomes.specs.declared.outcomes.FoundGaps.{FoundGaps}
 use Rattle.recall_outcomes.specs.declared.outcomes.Outcome.{Outcome}
 use Rattle.recall_outcomes.specs.declared.outcomes.Outcome.TheVariants as outcomes
 use Rattle.recall_outcomes.specs.declared.outcomes.StartedRecall.{StartedRecall}
@@ -524,6 +528,35 @@ audit_tells sites are a b ha hb e =
     let of : Recall → Option Verdict → AuditedRecall = λ r v. record { recall = r; verdict = v } in
     ap₂ of (recall_tells sites are a.recall b.recall ha.0 hb.0 told.0) told.1
 
+-- ---- gaps
+
+packed_tells : (sites : List Site) → AreSites sites → (a b : GapLine) → GapIsOf sites a → GapIsOf sites b → packed_json sites a ≡ packed_json sites b → a ≡ b
+packed_tells sites are a b ha hb e =
+    let of : ℕ × ℕ → List ℕ × ℕ → GapLine = λ x y. record { site = x.0; container = y.0; by = x.1; items = y.1 } in
+    ap₂ of (ap₂ (λ x y. (x, y)) (site_tells sites are a.site b.site ha.0 hb.0 (ap (text_at 3) e)) (site_tells sites are a.by b.by ha.1 hb.1 (ap (text_at 0) e)))
+    (ap (λ d. (text_at 1 d, count_at 2 d)) e)
+
+used_tells : (sites : List Site) → AreSites sites → (a b : GapLine) → UsedIsOf sites a → UsedIsOf sites b → used_json sites a ≡ used_json sites b → a ≡ b
+used_tells sites are a b ha hb e =
+    let of : ℕ × ℕ → List ℕ × ℕ → GapLine = λ x y. record { site = x.0; container = y.0; by = x.1; items = y.1 } in
+    let site : a.site ≡ b.site = site_tells sites are a.site b.site ha.0 hb.0 (ap (text_at 2) e) in
+    ap₂ of (ap₂ (λ x y. (x, y)) site (ha.1 ∙ site ∙ sym hb.1)) (ap (λ d. (text_at 0 d, count_at 1 d)) e)
+
+unseen_tells : (sites : List Site) → AreSites sites → (a b : UnseenItem) → UnseenIsOf sites a → UnseenIsOf sites b → unseen_json sites a ≡ unseen_json sites b → a ≡ b
+unseen_tells sites are a b ha hb e =
+    let of : ℕ × ℕ → List ℕ → UnseenItem = λ x y. record { site = x.0; item = y; from = x.1 } in
+    ap₂ of (ap₂ (λ x y. (x, y)) (site_tells sites are a.site b.site ha.0 hb.0 (ap (text_at 2) e)) (site_tells sites are a.from b.from ha.1 hb.1 (ap (text_at 0) e)))
+    (ap (text_at 1) e)
+
+gaps_tell : (sites : List Site) → AreSites sites → (a b : FoundGaps) → GapsAreOf sites a → GapsAreOf sites b → gaps_json sites a ≡ gaps_json sites b → AreSameGaps a b
+unfolding gaps_json
+gaps_tell sites are a b ha hb e = record {
+  packed = ap₂ (λ (ls : List GapLine) (n : ℕ). let gaps : Gaps = record { lines = ls; items = n } in gaps)
+      (listed_tell (GapIsOf sites) (packed_json sites) (packed_tells sites are) a.packed.lines b.packed.lines ha.packed hb.packed (ap (at 1) e)) (ap (count_at 0) e);
+  used = listed_tell (UsedIsOf sites) (used_json sites) (used_tells sites are) a.used.items b.used.items ha.used hb.used (ap (at 3) e);
+  unseen = listed_tell (UnseenIsOf sites) (unseen_json sites) (unseen_tells sites are) a.unseen.items b.unseen.items ha.unseen hb.unseen (ap (at 2) e);
+}
+
 -- ---- refusals
 
 kind_tells : (k l : DocFaultKind) → kind_name k ≡ kind_name l → k ≡ l
@@ -706,6 +739,7 @@ values_tell sites are = record {
   dry_starts = λ q m r n e. (ap (count_at 1) e, ap (count_at 0) e);
   audits = λ r s hr hs e. mapped_tell (AuditedIsOf sites) (audited_json sites) (audit_tells sites are) r s hr hs e;
   misfits = λ a b ha hb e. misfit_tells sites are a b ha hb e;
+  gaps = λ a b ha hb e. gaps_tell sites are a b ha hb e;
   refusals = λ a b ha hb e. whys_tell sites are a b ha hb e;
 }
 
@@ -724,6 +758,7 @@ kind_in d =
     if has (codes "refused") d then 12 else
     if has (codes "audit") d then 10 else
     if has (codes "misfit") d then 11 else
+    if has (codes "unseen") d then 13 else
     if has (codes "would") d then 9 else
     if has (codes "events") d then 8 else
     if has (codes "origins") d then 5 else
@@ -782,7 +817,7 @@ why_kind sites refusals.UnknownRecall = refl
 why_kind sites (refusals.Step why) = step_kind sites why
 
 kind_told : (sites : List Site) (o : Outcome) → 0 < length (outcome_json sites o) → first_kind (outcome_json sites o) ≡ Some (kind_of o)
-unfolding account_json status_json detail_json
+unfolding account_json status_json detail_json gaps_json
 kind_told sites outcomes.Created some = refl
 kind_told sites (outcomes.Stepped done) some = ap Some (effects_kind sites done)
 kind_told sites (outcomes.Ran recalls) some = listed_kind (ran_json sites) 2 (λ b. refl) recalls.items some
@@ -795,6 +830,7 @@ kind_told sites (outcomes.Known site known) some = listed_kind (known_json sites
 kind_told sites (outcomes.WouldStart quarantined messages) some = refl
 kind_told sites (outcomes.Audited recalls) some = listed_kind (audited_json sites) 10 (λ b. verdict_kind sites b.recall b.verdict) recalls.items some
 kind_told sites (outcomes.Inconsistent misfit) some = refl
+kind_told sites (outcomes.Gaps gaps coded) some = refl
 kind_told sites (outcomes.Refused whys) some = listed_kind (why_json sites) 12 (why_kind sites) whys.items some
 
 pub values_tell_kinds : ValuesTellKinds

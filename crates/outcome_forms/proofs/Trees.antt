@@ -8,6 +8,7 @@ use Rattle.query_core.specs.declared.recalls.RecallStatus.{RecallStatus}
 use Rattle.query_core.specs.declared.recalls.SiteStanding.{SiteStanding}
 use Rattle.recall_outcomes.specs.declared.outcomes.CommandRefusal.{CommandRefusal}
 use Rattle.recall_outcomes.specs.declared.outcomes.CommandRefusal.TheVariants as refusals
+use Rattle.recall_outcomes.specs.declared.outcomes.FoundGaps.{FoundGaps}
 use Rattle.recall_outcomes.specs.declared.outcomes.Outcome.{Outcome}
 use Rattle.recall_outcomes.specs.declared.outcomes.Outcome.TheVariants as outcomes
 use Rattle.recall_outcomes.specs.declared.outcomes.Ways.{Ways}
@@ -30,7 +31,7 @@ use Rattle.site_core.specs.declared.outcomes.Refusal.{Refusal}
 use Rattle.site_core.specs.declared.outcomes.Refusal.TheVariants as steps
 use Rattle.trace_core.specs.declared.pairs.Pair.{Pair}
 use Rattle.outcome_forms.specs.Accounts.{told_events}
-use Rattle.outcome_forms.specs.Json.{Shown, whole, before, behind, account_json, audited_json, beside_json, created_json, detail_json, effects_json, engaged_json, event_json, known_json, line_members, list_of, misfit_json, outcome_json, outside_json, pair_json, part_json, ran_json, root_json, shown_members, shown_way, standing_json, status_json, step_json, step_members, text_or_null, titled_json, trail_json, verdict_json, waiting_json, why_json, with_events, would_json}
+use Rattle.outcome_forms.specs.Json.{Shown, whole, before, behind, account_json, audited_json, beside_json, created_json, detail_json, effects_json, engaged_json, event_json, gaps_json, known_json, line_members, list_of, misfit_json, outcome_json, outside_json, packed_json, pair_json, part_json, ran_json, root_json, shown_members, shown_way, standing_json, status_json, step_json, step_members, text_or_null, titled_json, trail_json, unseen_json, used_json, verdict_json, waiting_json, why_json, with_events, would_json}
 use Rattle.outcome_forms.specs.Telling.{ValuesAreRead}
 use Rattle.outcome_forms.proofs.Reading.{IsTree, all_read, deeper, tree_free}
 
@@ -158,6 +159,22 @@ detail_tree sites detail = (
   ),
 )
 
+gaps_tree : (sites : List Site) (gaps : FoundGaps) → IsTree 6 (gaps_json sites gaps)
+unfolding gaps_json
+gaps_tree sites gaps = (
+  refl,
+  (
+    tt,
+    (
+      list_tree 4 (packed_json sites) (λ l. (refl, (tt, (tt, (tt, (tt, tt)))))) gaps.packed.lines,
+      (
+        list_tree 4 (unseen_json sites) (λ u. (refl, (tt, (tt, (tt, tt))))) gaps.unseen.items,
+        (list_tree 4 (used_json sites) (λ l. (refl, (tt, (tt, (tt, tt))))) gaps.used.items, tt),
+      ),
+    ),
+  ),
+)
+
 created_tree : (sites : List Site) → IsTree 6 (created_json sites)
 created_tree sites = (refl, (list_tree 4 (λ (s : Site). string s.name) (λ s. tt) sites, tt))
 
@@ -181,6 +198,7 @@ all_trees sites (outcomes.Known site known) = each_tree (known_json sites site) 
 all_trees sites (outcomes.WouldStart quarantined messages) = one_tree (would_json quarantined messages) (refl, (tt, (tt, (tt, tt))))
 all_trees sites (outcomes.Audited recalls) = each_tree (audited_json sites) (λ a. verdict_tree sites a.recall a.verdict) recalls.items
 all_trees sites (outcomes.Inconsistent misfit) = one_tree (misfit_json sites misfit) (refl, (tt, (tt, tt)))
+all_trees sites (outcomes.Gaps gaps coded) = one_tree (gaps_json sites gaps) (gaps_tree sites gaps)
 all_trees sites (outcomes.Refused whys) = each_tree (why_json sites) (why_tree sites) whys.items
 
 pub values_are_read : ValuesAreRead

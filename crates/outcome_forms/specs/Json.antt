@@ -5,6 +5,8 @@ use Rattle.event_json.specs.Names.{field_name, kind_name, sites_fault_name}
 use Rattle.event_json.specs.Sites.{Site}
 use Rattle.event_json.specs.declared.doc_faults.DocFault.{DocFault}
 use Rattle.frame_core.specs.Numbers.{Recall, Message}
+use Rattle.gap_core.specs.declared.lines.GapLine.{GapLine}
+use Rattle.gap_core.specs.declared.unseen.UnseenItem.{UnseenItem}
 use Rattle.item_spellings.specs.Names.{scan_fault_name}
 use Rattle.query_core.specs.declared.known_items.KnownItem.{KnownItem}
 use Rattle.query_core.specs.declared.recalls.RecallDetail.{RecallDetail}
@@ -43,6 +45,7 @@ use Rattle.recall_outcomes.specs.declared.batches.Totals.{Totals}
 use Rattle.recall_outcomes.specs.declared.outcomes.AuditedRecall.{AuditedRecall}
 use Rattle.recall_outcomes.specs.declared.outcomes.CommandRefusal.{CommandRefusal}
 use Rattle.recall_outcomes.specs.declared.outcomes.CommandRefusal.TheVariants as refusals
+use Rattle.recall_outcomes.specs.declared.outcomes.FoundGaps.{FoundGaps}
 use Rattle.recall_outcomes.specs.declared.outcomes.Outcome.{Outcome}
 use Rattle.recall_outcomes.specs.declared.outcomes.Outcome.TheVariants as outcomes
 use Rattle.recall_outcomes.specs.declared.outcomes.StartedRecall.{StartedRecall}
@@ -235,6 +238,29 @@ verdict_json sites r (Some (Differs p missing)) = differs_json sites (recall_tex
 abbrev pub audited_json : List Site → AuditedRecall → Data
 audited_json sites audited = verdict_json sites audited.recall audited.verdict
 
+-- ---- gaps
+
+-- a container, the site that shipped it on, the one that packed it, and how many items lie in it
+abbrev pub packed_json : List Site → GapLine → Data
+packed_json sites l =
+    object (text_at (codes "by") (name_at sites l.by) (text_at (codes "item") l.container (count_at (codes "items") l.items
+    (text_at (codes "site") (name_at sites l.site) no_members))))
+
+-- a container, the site that took it into a transformation, and how many items that lie in it weren't taken in
+abbrev pub used_json : List Site → GapLine → Data
+used_json sites l = object (text_at (codes "item") l.container (count_at (codes "items") l.items (text_at (codes "site") (name_at sites l.site) no_members)))
+
+-- an item, the site that it was shipped to, and the one that shipped it
+abbrev pub unseen_json : List Site → UnseenItem → Data
+unseen_json sites u =
+    object (text_at (codes "from") (name_at sites u.from) (text_at (codes "item") u.item (text_at (codes "site") (name_at sites u.site) no_members)))
+
+-- how many items lie in the packed ones, and all of them
+unfoldable pub gaps_json : List Site → FoundGaps → Data
+gaps_json sites gaps =
+    object (count_at (codes "items") gaps.packed.items (member (codes "packed") (list_of (packed_json sites) gaps.packed.lines)
+    (member (codes "unseen") (list_of (unseen_json sites) gaps.unseen.items) (member (codes "used") (list_of (used_json sites) gaps.used.items) no_members))))
+
 -- ---- refusals
 
 abbrev pub refused : List ℕ → Members → Members
@@ -296,6 +322,7 @@ outcome_json sites (outcomes.Known site items) = map (known_json sites site) ite
 outcome_json sites (outcomes.WouldStart quarantined messages) = would_json quarantined messages ∷ []
 outcome_json sites (outcomes.Audited recalls) = map (audited_json sites) recalls.items
 outcome_json sites (outcomes.Inconsistent misfit) = misfit_json sites misfit ∷ []
+outcome_json sites (outcomes.Gaps gaps coded) = gaps_json sites gaps ∷ []
 outcome_json sites (outcomes.Refused whys) = map (why_json sites) whys.items
 
 -- ---- inputs of several, with their source

@@ -6,6 +6,8 @@ use Rattle.std.specs.Prelude.{◌≡◌, ◌<◌, ◌^◌, ⊤, ℕ, List, All, 
 use Rattle.std.specs.List.{AllZip}
 use Rattle.event_json.specs.Sites.{AreSites, Site}
 use Rattle.frame_core.specs.Numbers.{Message, Recall}
+use Rattle.gap_core.specs.declared.lines.GapLine.{GapLine}
+use Rattle.gap_core.specs.declared.unseen.UnseenItem.{UnseenItem}
 use Rattle.query_core.specs.declared.known_items.KnownItem.{KnownItem}
 use Rattle.query_core.specs.declared.recalls.RecallDetail.{RecallDetail}
 use Rattle.query_core.specs.declared.recalls.RecallStatus.{RecallStatus}
@@ -24,13 +26,14 @@ use Rattle.site_core.specs.declared.outcomes.Refusal.{Refusal}
 use Rattle.site_core.specs.declared.outcomes.Refusal.TheVariants as steps
 use Rattle.site_recovery.specs.declared.checking.Misfit.{Misfit}
 use Rattle.trace_core.specs.declared.pairs.Pair.{Pair}
-use Rattle.outcome_forms.specs.Json.{Shown, account_json, audited_json, detail_json, effects_json, json_lines, known_json, misfit_json, outcome_json, ran_json, shown_way, status_json, why_json, would_json}
+use Rattle.outcome_forms.specs.Json.{Shown, account_json, audited_json, detail_json, effects_json, gaps_json, json_lines, known_json, misfit_json, outcome_json, ran_json, shown_way, status_json, why_json, would_json}
 use Rattle.report_forms.specs.Accounts.{Account, Part, way_pairs}
 use Rattle.report_forms.specs.declared.accounts.Title.{Title}
 use Rattle.report_forms.specs.declared.accounts.Title.TheVariants as titles
 use Rattle.recall_outcomes.specs.declared.outcomes.AuditedRecall.{AuditedRecall}
 use Rattle.recall_outcomes.specs.declared.outcomes.CommandRefusal.{CommandRefusal}
 use Rattle.recall_outcomes.specs.declared.outcomes.CommandRefusal.TheVariants as refusals
+use Rattle.recall_outcomes.specs.declared.outcomes.FoundGaps.{FoundGaps}
 use Rattle.recall_outcomes.specs.declared.outcomes.Outcome.{Outcome}
 use Rattle.recall_outcomes.specs.declared.outcomes.Outcome.TheVariants as outcomes
 use Rattle.recall_outcomes.specs.declared.outcomes.StartedRecall.{StartedRecall}
@@ -86,6 +89,7 @@ kind_of (outcomes.WouldStart quarantined messages) = 9
 kind_of (outcomes.Audited recalls) = 10
 kind_of (outcomes.Inconsistent misfit) = 11
 kind_of (outcomes.Refused whys) = 12
+kind_of (outcomes.Gaps gaps coded) = 13
 
 -- Where there is a value, it tells which outcome it is.
 abbrev pub ValuesTellKinds : Type 0
@@ -127,6 +131,27 @@ VerdictIsOf sites (Differs p missing) = PairIsOf sites p
 
 abbrev pub AuditedIsOf : List Site → AuditedRecall → Type 0
 AuditedIsOf sites a = RecallIsOf sites a.recall × SomeIsOf (VerdictIsOf sites) a.verdict
+
+abbrev pub GapIsOf : List Site → GapLine → Type 0
+GapIsOf sites l = (l.site < length sites) × (l.by < length sites)
+
+-- of a used one the site itself is the packer
+abbrev pub UsedIsOf : List Site → GapLine → Type 0
+UsedIsOf sites l = (l.site < length sites) × (l.by ≡ l.site)
+
+abbrev pub UnseenIsOf : List Site → UnseenItem → Type 0
+UnseenIsOf sites u = (u.site < length sites) × (u.from < length sites)
+
+pub record GapsAreOf (sites : List Site) (gaps : FoundGaps) : Type 0 where
+  pub packed : All (GapIsOf sites) gaps.packed.lines
+  pub used : All (UsedIsOf sites) gaps.used.items
+  pub unseen : All (UnseenIsOf sites) gaps.unseen.items
+
+-- the same gaps, by their lists
+pub record AreSameGaps (a b : FoundGaps) : Type 0 where
+  pub packed : a.packed ≡ b.packed
+  pub used : a.used.items ≡ b.used.items
+  pub unseen : a.unseen.items ≡ b.unseen.items
 
 abbrev pub StepIsOf : List Site → Refusal → Type 0
 StepIsOf sites (steps.Blocked r key event) = RecallIsOf sites r
@@ -196,6 +221,7 @@ pub record ValuesTell (sites : List Site) : Type 0 where
   pub dry_starts : (q m r n : ℕ) → would_json q m ≡ would_json r n → (q ≡ r) × (m ≡ n)
   pub audits : (r s : List AuditedRecall) → All (AuditedIsOf sites) r → All (AuditedIsOf sites) s → map (audited_json sites) r ≡ map (audited_json sites) s → r ≡ s
   pub misfits : (a b : Misfit) → a.site < length sites → b.site < length sites → misfit_json sites a ≡ misfit_json sites b → a ≡ b
+  pub gaps : (a b : FoundGaps) → GapsAreOf sites a → GapsAreOf sites b → gaps_json sites a ≡ gaps_json sites b → AreSameGaps a b
   pub refusals : (a b : List CommandRefusal) → All (WhyIsOf sites) a → All (WhyIsOf sites) b → map (why_json sites) a ≡ map (why_json sites) b → AllZip TellsWhy a b
 
 abbrev pub ValuesTellOutcomes : Type 0

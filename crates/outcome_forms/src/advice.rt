@@ -30,6 +30,10 @@ pub(crate) fn advice(outcome: &Outcome) -> Option<&'static str> {
             recalls.is_empty(),
             "note: the records of the sites are consistent, and no recall was begun\n",
         ),
+        Outcome::Gaps { gaps, coded: _ } => or_none(
+            gaps.packed.lines.len() > 0,
+            "note: past the site that shipped such a container on, a recall finds nothing of what others packed into it: have that site capture the packing, an AggregationEvent with the action ADD, before a recall reaches it\n",
+        ),
         Outcome::Refused(whys) => or_none(
             whys.iter().any(|why| is_blocked(why)),
             "note: nothing of the document was kept, and `recall capture --each` keeps its other events: if the goods have left, capture what the site that took them wrote, and start a recall of the item there\n",

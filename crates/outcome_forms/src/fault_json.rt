@@ -80,7 +80,8 @@ fn put(
 pub(crate) fn note_lines(alloc: Global, text: &str) -> Result<String, AllocError> {
     let mut notes = String::new(alloc);
     for line in text.lines() {
-        let note = json!(in alloc; {"note": line})?;
+        let note = line.strip_prefix("note: ").unwrap_or(line);
+        let note = json!(in alloc; {"note": note})?;
         notes.push_str(note.to_string(alloc)?.as_str())?;
         notes.push_str("\n")?;
     }

@@ -108,6 +108,25 @@ fn fault_sentence(fault: Fault) -> &'static str {
     }
 }
 
+/// What the cause of a fault says beside that, or the fault itself where it says no more.
+fn sentence_of(fault: Fault, failure: Option<&Failure>) -> &'static str {
+    match failure.and_then(|failure| failure.cause.as_ref()) {
+        Some(Cause::InUse) => {
+            "another program has the file open: run the command again once that has ended, or with `--wait 60`"
+        }
+        Some(Cause::Damaged) => {
+            "the file's bytes aren't those that were written: put back the last backup of all sites' files, and capture again what came since"
+        }
+        Some(Cause::NoSpace) => {
+            "there is no room on the disk: each file has the record before its last step or after it, so make room and run the command again"
+        }
+        Some(Cause::NoPermission) => {
+            "this user may not open the file as the program needs it: let the user that runs it read and write the folder and its files"
+        }
+        _ => fault_sentence(fault),
+    }
+}
+
 /// The name of the kind of a cause, as `NoSpace`.
 pub(crate) fn cause_kind(cause: &Cause) -> &'static str {
     match cause {
@@ -194,7 +213,7 @@ pub(crate) fn fault_text(
     if let Some(failure) = failure {
         text.push_str(failure_line(alloc, failure)?.as_str())?;
     }
-    text.push_str(fault_sentence(fault))?;
+    text.push_str(sentence_of(fault, failure))?;
     text.push_str("\n")?;
     Ok(text)
 }

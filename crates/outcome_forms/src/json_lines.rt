@@ -11,6 +11,7 @@ ghost use Rattle.outcome_forms.specs.Json.{account_json, json_line, json_lines, 
 ghost use Rattle.outcome_forms.specs.Writing.{AppendsText, is_of_writing};
 
 use crate::account_json::{account_head, account_tail, part_json, value_text};
+use crate::gap_json::gaps_json;
 use crate::outcome_json::{created_json, effects_json, misfit_json};
 use crate::query_json::{detail_json, known_values, would_json};
 use crate::values::values;
@@ -44,6 +45,7 @@ pub(crate) fn outcome_values(
         } => one(alloc, would_json(alloc, *quarantined, *messages)?),
         Outcome::Audited(recalls) => values(alloc, sites, recalls.as_slice()),
         Outcome::Inconsistent(misfit) => one(alloc, misfit_json(alloc, sites, *misfit)?),
+        Outcome::Gaps { gaps, coded: _ } => one(alloc, gaps_json(alloc, sites, gaps)?),
         Outcome::Refused(whys) => values(alloc, sites, whys.as_slice()),
         _ => Ok(Vec::new(alloc)),
     }

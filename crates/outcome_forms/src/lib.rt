@@ -14,6 +14,7 @@ mod beside;
 mod fault_json;
 mod fault_texts;
 mod forms;
+mod gap_json;
 mod json_lines;
 pub mod laws;
 mod notes;

@@ -7,10 +7,15 @@ use recall_outcomes::{Knower, Knowers, Notes, Outcome, RunNotes, Stop, StopCause
 use recall_text::telling::{name_of, recall_text};
 use report_core::OutsideShipment;
 use std::alloc::{AllocError, Global};
+use trace_core::Pair;
 
 /// What it means where a recall waits at a site in vain.
 const STUCK: &str =
     "note: each of these sites takes part in the recall and has no message of it left, so `recall run` can't end it; no run leads there: put all sites' files back as one backup has them, or begin a recall of the item anew\n";
+
+/// What it means where items are missed.
+const MISSED: &str =
+    "note: these items went on from there in containers that others packed, and the site never captured that, so this doesn't tell where they went: `recall gaps` lists the containers\n";
 
 /// The notes beside an outcome.
 pub(crate) fn notes_text(
@@ -24,6 +29,7 @@ pub(crate) fn notes_text(
         Notes::Run(run) => run_text(alloc, sites, run),
         Notes::Knowers(knowers) => knowers_text(alloc, sites, knowers),
         Notes::Stuck(stuck) => stuck_text(alloc, sites, stuck.as_slice()),
+        Notes::Missed(missed) => missed_text(alloc, sites, missed.as_slice()),
     }
 }
 
@@ -130,6 +136,34 @@ fn stuck_text(alloc: Global, sites: &Sites, stuck: &[StuckRecall]) -> Result<Str
     }
     text.push_str(STUCK)?;
     Ok(text)
+}
+
+/// How many items are missed at each site, and what can be done.
+fn missed_text(alloc: Global, sites: &Sites, missed: &[Pair]) -> Result<String, AllocError> {
+    let mut text = String::new(alloc);
+    for number in 0..sites.len() {
+        if let Some(site) = SiteNo::of(number) {
+            push_missed(alloc, &mut text, sites, missed, site)?;
+        }
+    }
+    text.push_str(MISSED)?;
+    Ok(text)
+}
+
+/// Adds how many items are missed at a site, if there are any.
+fn push_missed(
+    alloc: Global,
+    text: &mut String,
+    sites: &Sites,
+    missed: &[Pair],
+    site: SiteNo,
+) -> Result<(), AllocError> {
+    let count = missed.iter().filter(|pair| pair.site == site).count();
+    if count == 0 {
+        return Ok(());
+    }
+    let name = name_of(sites, site);
+    text.push_str(format!(in alloc; "missed {count} at {name}\n")?.as_str())
 }
 
 /// Of a report, or of a trace to where an item went: for each listed address of a site that names a place outside in

@@ -1,17 +1,19 @@
 -- the law of statuses
-use Rattle.std.proofs.Common.{◌≡◌, ◌⊎◌, inl, inr, ◌↔◌, ℕ, Bool, true, false, not, ◌&&◌, if◌then◌else◌, List, Contains, Option, Some, None, refl, sym, ap, ◌∙◌, arith}
+use Rattle.std.proofs.Common.{◌≡◌, ◌⊎◌, inl, inr, ◌↔◌, ℕ, Bool, true, false, not, ◌&&◌, ◌==◌, if◌then◌else◌, List, [], ◌∷◌, length, Contains, Option, Some, None, refl, sym, ap, ◌∙◌, ⊎_elim, arith}
 use mathlib.Core.Bool.{false≢true}
 use Rattle.std.specs.List.{list_any}
+use Rattle.std.proofs.lemmas.Bool.{ne_eqb}
 use Rattle.std.specs.Global.{Global}
 use Rattle.std.specs.declared.vec.Vec.{Vec}
 use Rattle.query_core.specs.declared.recalls.RecallDetail.{RecallDetail}
 use Rattle.query_core.specs.declared.recalls.RecallStatus.{RecallStatus}
 use Rattle.report_core.specs.declared.audits.Verdict.{Verdict}
 use Rattle.report_core.specs.declared.audits.Verdict.TheVariants.{Equal, Differs}
-use Rattle.trace_core.proofs.Members.{list_any_member, list_any_witness}
-use Rattle.recall_outcomes.specs.Laws.{IsAmiss, IsOpen, IsRefused, IsWrong, StatusesTell, StatusesTellOutcomes, TellsOpen}
-use Rattle.recall_outcomes.specs.Statuses.{differs, is_amiss, is_open, outcome_status}
+use Rattle.trace_core.proofs.Members.{contains_here, contains_none, list_any_member, list_any_witness}
+use Rattle.recall_outcomes.specs.Laws.{HasGap, IsAmiss, IsOpen, IsRefused, IsWrong, StatusesTell, StatusesTellOutcomes, TellsOpen}
+use Rattle.recall_outcomes.specs.Statuses.{differs, has_gaps, is_amiss, is_open, outcome_status}
 use Rattle.recall_outcomes.specs.declared.outcomes.AuditedRecall.{AuditedRecall}
+use Rattle.recall_outcomes.specs.declared.outcomes.FoundGaps.{FoundGaps}
 use Rattle.recall_outcomes.specs.declared.outcomes.Outcome.{Outcome}
 use Rattle.recall_outcomes.specs.declared.outcomes.Outcome.TheVariants as outcomes
 
@@ -31,6 +33,50 @@ open_of status e = not_true status.ended e
     not_true : (b : Bool) → not b ≡ true → b ≡ false
     not_true false e = refl
     not_true true e = absurd (false≢true e)
+
+-- a list has an element, or none
+empty_has_none : {X : Type 0} (xs : List X) (x : X) → Contains xs x → (length xs == 0) ≡ false
+empty_has_none [] x h = absurd (contains_none x h)
+empty_has_none (y ∷ ys) x h = ne_eqb (length (y ∷ ys)) 0 (λ e. omega (arith, e))
+
+some_first : {X : Type 0} (xs : List X) → (length xs == 0) ≡ false → (x : X) × Contains xs x
+some_first [] e = absurd (false≢true (sym e))
+some_first (x ∷ xs) e = (x, contains_here x xs)
+
+either_none : (a b c : Bool) → not ((a && b) && c) ≡ true → (a ≡ false) ⊎ ((b ≡ false) ⊎ (c ≡ false))
+either_none false b c e = inl refl
+either_none true false c e = inr (inl refl)
+either_none true true false e = inr (inr refl)
+either_none true true true e = absurd (false≢true e)
+
+first_not : (a b c : Bool) → a ≡ false → not ((a && b) && c) ≡ true
+first_not false b c e = refl
+first_not true b c e = absurd (false≢true (sym e))
+
+second_not : (a b c : Bool) → b ≡ false → not ((a && b) && c) ≡ true
+second_not false b c e = refl
+second_not true false c e = refl
+second_not true true c e = absurd (false≢true (sym e))
+
+third_not : (a b c : Bool) → c ≡ false → not ((a && b) && c) ≡ true
+third_not false b c e = refl
+third_not true false c e = refl
+third_not true true false e = refl
+third_not true true true e = absurd (false≢true (sym e))
+
+gap_of : (gaps : FoundGaps) → has_gaps gaps ≡ true → HasGap gaps
+gap_of gaps e = ⊎_elim
+    (λ packed. inl (some_first gaps.packed.lines packed))
+    (λ more. ⊎_elim (λ used. inr (inl (some_first gaps.used.items used))) (λ unseen. inr (inr (some_first gaps.unseen.items unseen))) more)
+    (either_none (length gaps.packed.lines == 0) (length gaps.used.items == 0) (length gaps.unseen.items == 0) e)
+
+gaps_of : (gaps : FoundGaps) → HasGap gaps → has_gaps gaps ≡ true
+gaps_of gaps has =
+    let (a, b, c) : Bool × Bool × Bool = (length gaps.packed.lines == 0, length gaps.used.items == 0, length gaps.unseen.items == 0) in
+    ⊎_elim
+    (λ (l, there). first_not a b c (empty_has_none gaps.packed.lines l there))
+    (λ more. ⊎_elim (λ (l, there). second_not a b c (empty_has_none gaps.used.items l there)) (λ (u, there). third_not a b c (empty_has_none gaps.unseen.items u there)) more)
+    has
 
 -- ---- a status that is 0 or another one
 
@@ -144,6 +190,26 @@ statuses_tell (outcomes.Inconsistent misfit) = record {
   still_open = (λ e. let no : ⊥ = omega (arith, e) in absurd no, λ no. absurd no);
   no_others = inr (inr (inl refl));
 }
+statuses_tell (outcomes.Gaps gaps coded) = of_gaps coded
+  where
+    test : Bool → Bool
+    test coded = coded && has_gaps gaps
+
+    some : (coded : Bool) → test coded ≡ true → TellsOpen (outcomes.Gaps gaps coded)
+    some false e = absurd (false≢true e)
+    some true e = (refl, gap_of gaps e)
+
+    found_of : (coded : Bool) → TellsOpen (outcomes.Gaps gaps coded) → test coded ≡ true
+    found_of true (e, has) = gaps_of gaps has
+    found_of false (e, has) = absurd (false≢true e)
+
+    of_gaps : (coded : Bool) → StatusesTell (outcomes.Gaps gaps coded)
+    of_gaps coded = record {
+      refused = (λ e. absurd (no_other 5 1 (test coded) (λ e. omega (arith, e)) (λ e. omega (arith, e)) e), λ no. absurd no);
+      amiss = (λ e. absurd (no_other 5 4 (test coded) (λ e. omega (arith, e)) (λ e. omega (arith, e)) e), λ no. absurd no);
+      still_open = (λ e. some coded (of_test 5 (test coded) (λ e. omega (arith, e)) e), λ w. by_true 5 (test coded) (found_of coded w));
+      no_others = known_by 5 (test coded) five_known;
+    }
 statuses_tell (outcomes.Refused whys) = record {
   refused = (λ e. tt, λ is. refl);
   amiss = (λ e. let no : ⊥ = omega (arith, e) in absurd no, λ no. absurd no);

@@ -1,5 +1,7 @@
 -- What statuses tell.
 use Rattle.std.specs.Prelude.{◌≡◌, ◌⊎◌, ◌↔◌, ⊤, ℕ, Bool, true, false, Contains, Some}
+use Rattle.gap_core.specs.declared.lines.GapLine.{GapLine}
+use Rattle.gap_core.specs.declared.unseen.UnseenItem.{UnseenItem}
 use Rattle.query_core.specs.declared.recalls.RecallStatus.{RecallStatus}
 use Rattle.report_core.specs.declared.audits.Verdict.TheVariants.{Differs}
 use Rattle.trace_core.specs.declared.pairs.Pair.{Pair}
@@ -10,6 +12,7 @@ use Rattle.recall_outcomes.specs.declared.batches.InputOutcome.TheVariants as in
 use Rattle.recall_outcomes.specs.declared.batches.Totals.{Totals}
 use Rattle.recall_outcomes.specs.declared.outcomes.AuditedRecall.{AuditedRecall}
 use Rattle.recall_outcomes.specs.declared.outcomes.CommandRefusal.{CommandRefusal}
+use Rattle.recall_outcomes.specs.declared.outcomes.FoundGaps.{FoundGaps}
 use Rattle.recall_outcomes.specs.declared.outcomes.Outcome.{Outcome}
 use Rattle.recall_outcomes.specs.declared.outcomes.Outcome.TheVariants as outcomes
 
@@ -34,15 +37,20 @@ IsAmiss other = ⊥
 abbrev pub IsOpen : RecallStatus → Type 0
 IsOpen status = status.ended ≡ false
 
--- it was asked for a status that tells of open recalls, and one is open
+-- a gap of one of the three kinds was found
+abbrev pub HasGap : FoundGaps → Type 0
+HasGap gaps = ((l : GapLine) × Contains gaps.packed.lines l) ⊎ (((l : GapLine) × Contains gaps.used.items l) ⊎ ((u : UnseenItem) × Contains gaps.unseen.items u))
+
+-- it was asked for a status that tells of open recalls, or of gaps, and there is one
 abbrev pub TellsOpen : Outcome → Type 0
 TellsOpen (outcomes.Standing recalls coded) = (coded ≡ true) × (status : RecallStatus) × Contains recalls.items status × IsOpen status
 TellsOpen (outcomes.Waiting detail coded) = (coded ≡ true) × IsOpen detail.status
+TellsOpen (outcomes.Gaps gaps coded) = (coded ≡ true) × HasGap gaps
 TellsOpen other = ⊥
 
 -- ---- the laws
 
--- Each status tells just that: 1 what was refused, 4 a discrepancy, 5 an open recall where that was asked for. There are no others but
+-- Each status tells just that: 1 what was refused, 4 a discrepancy, 5 an open recall or a gap where that was asked for. There are no others but
 -- 0, which is left for all that went well.
 pub record StatusesTell (o : Outcome) : Type 0 where
   pub refused : (outcome_status o ≡ 1) ↔ IsRefused o

@@ -1,10 +1,11 @@
 -- The status of a program that ends with what a command came to.
-use Rattle.std.specs.Prelude.{ℕ, Bool, true, false, not, ◌&&◌, Option, Some, None, if◌then◌else◌}
+use Rattle.std.specs.Prelude.{ℕ, Bool, true, false, not, ◌&&◌, ◌==◌, length, Option, Some, None, if◌then◌else◌}
 use Rattle.std.specs.List.{list_any}
 use Rattle.query_core.specs.declared.recalls.RecallStatus.{RecallStatus}
 use Rattle.report_core.specs.declared.audits.Verdict.{Verdict}
 use Rattle.report_core.specs.declared.audits.Verdict.TheVariants.{Equal, Differs}
 use Rattle.recall_outcomes.specs.declared.outcomes.AuditedRecall.{AuditedRecall}
+use Rattle.recall_outcomes.specs.declared.outcomes.FoundGaps.{FoundGaps}
 use Rattle.recall_outcomes.specs.declared.outcomes.Outcome.{Outcome}
 use Rattle.recall_outcomes.specs.declared.outcomes.Outcome.TheVariants as outcomes
 
@@ -21,7 +22,11 @@ is_amiss audited = differs audited.verdict
 abbrev pub is_open : RecallStatus → Bool
 is_open status = not status.ended
 
--- 0 done, 1 refused, 4 a discrepancy; and where it is asked for, 5 while a recall is open
+-- there are gaps
+abbrev pub has_gaps : FoundGaps → Bool
+has_gaps gaps = not ((length gaps.packed.lines == 0 && length gaps.used.items == 0) && length gaps.unseen.items == 0)
+
+-- 0 done, 1 refused, 4 a discrepancy; and where it is asked for, 5 while a recall is open, or there are gaps
 abbrev pub outcome_status : Outcome → ℕ
 outcome_status outcomes.Created = 0
 outcome_status (outcomes.Stepped effects) = 0
@@ -35,4 +40,5 @@ outcome_status (outcomes.Known site items) = 0
 outcome_status (outcomes.WouldStart quarantined messages) = 0
 outcome_status (outcomes.Audited recalls) = if list_any is_amiss recalls.items then 4 else 0
 outcome_status (outcomes.Inconsistent misfit) = 4
+outcome_status (outcomes.Gaps gaps coded) = if coded && has_gaps gaps then 5 else 0
 outcome_status (outcomes.Refused whys) = 1

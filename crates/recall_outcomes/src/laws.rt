@@ -2,8 +2,8 @@
 
 ghost use Rattle.recall_outcomes.specs.Laws.{RefusedInputsAreCounted, StatusesTellOutcomes};
 
-/// Status 1 tells just what was refused, 4 just a discrepancy, and 5 just an open recall where that was asked for; all
-/// else has status 0.
+/// Status 1 tells just what was refused, 4 just a discrepancy, and 5 just an open recall, or a gap, where that was
+/// asked for; all else has status 0.
 pub fn statuses_tell_outcomes()
     ensures { StatusesTellOutcomes }
 {}

@@ -15,4 +15,6 @@ pub use batches::{InputOutcome, Task, Totals};
 pub use causes::{Cause, Failure};
 pub use faults::Fault;
 pub use notes::{Knower, Knowers, Notes, RunNotes, Stop, StopCause};
-pub use outcomes::{AuditedRecall, CommandRefusal, Outcome, Output, StartedRecall, Ways};
+pub use outcomes::{
+    AuditedRecall, CommandRefusal, FoundGaps, Outcome, Output, StartedRecall, Ways,
+};

@@ -3,6 +3,7 @@
 use epc_core::Epc;
 use event_json::{SiteNo, Untraced};
 use query_core::StuckRecall;
+use trace_core::Pair;
 
 /// What is told beside an outcome.
 #[derive(Debug, Drop)]
@@ -17,6 +18,9 @@ pub enum Notes {
     Knowers(Knowers),
     /// The sites that recalls wait at in vain, by their numbers: one at least.
     Stuck(Vec<StuckRecall>),
+    /// Items that are told, each at the site that sent it on with something that others packed, so that it isn't told where
+    /// it went: one at least.
+    Missed(Vec<Pair>),
 }
 
 /// Why a site stopped.

@@ -2,11 +2,12 @@
 
 ghost use Rattle.std.specs.Prelude.{◌≡◌};
 ghost use Rattle.std.specs.List.{list_any};
-ghost use Rattle.recall_outcomes.specs.Statuses.{is_amiss, is_open, outcome_status};
+ghost use Rattle.recall_outcomes.specs.Statuses.{has_gaps, is_amiss, is_open, outcome_status};
 
 use crate::notes::Notes;
 use event_json::{Sequence, SiteNo, Sites};
 use frame_core::RecallId;
+use gap_core::{GapLine, Gaps, UnseenItem};
 use item_spellings::ScanFault;
 use query_core::{KnownItem, RecallDetail, RecallStatus};
 use recall_text::RefusedLine;
@@ -37,6 +38,17 @@ pub struct AuditedRecall {
     pub recall: RecallId,
     /// How its quarantine compares with what its root reaches; `None` while the recall is open.
     pub verdict: Option<Verdict>,
+}
+
+/// Where sites tell nothing of what others packed, or sent them.
+#[derive(Debug, Drop)]
+pub struct FoundGaps {
+    /// The containers that a site shipped on and others packed: it never captured that.
+    pub packed: Gaps,
+    /// The containers that a site took into a transformation, and what lies in them not.
+    pub used: Vec<GapLine>,
+    /// The items that were shipped to a site of which no event names them.
+    pub unseen: Vec<UnseenItem>,
 }
 
 /// What a command on the sites' files did, or why it was refused.
@@ -96,6 +108,12 @@ pub enum Outcome {
     Audited(Vec<AuditedRecall>),
     /// The records of the sites aren't consistent.
     Inconsistent(Misfit),
+    /// The gaps of what the sites captured.
+    Gaps {
+        gaps: FoundGaps,
+        /// Whether the program's status tells that there are any.
+        coded: bool,
+    },
     /// It was refused, for these reasons, and nothing changed.
     Refused(Vec<CommandRefusal>),
 }
@@ -139,7 +157,7 @@ pub struct Output {
 
 impl Outcome {
     /// The status of a program that ends with it: 0 done, 1 refused, 4 a discrepancy, and where it was asked for, 5 for
-    /// a recall that is open.
+    /// a recall that is open, or for gaps.
     pub fn status(&self) -> u8
         ensures { result ≡ outcome_status self.now }
     {
@@ -184,6 +202,7 @@ impl Outcome {
             } => 0,
             Outcome::Audited(recalls) => { if some_amiss(recalls.as_slice()) { 4 } else { 0 } }
             Outcome::Inconsistent(_) => 4,
+            Outcome::Gaps { gaps, coded } => { if *coded && has_gaps(gaps) { 5 } else { 0 } }
             Outcome::Refused(_) => 1,
         }
     }
@@ -224,4 +243,11 @@ fn is_open(status: &RecallStatus) -> bool
     ensures { result ≡ is_open status.now }
 {
     !status.ended
+}
+
+/// Whether there are gaps.
+fn has_gaps(gaps: &FoundGaps) -> bool
+    ensures { result ≡ has_gaps gaps.now }
+{
+    !(gaps.packed.lines.is_empty() && gaps.used.is_empty() && gaps.unseen.is_empty())
 }

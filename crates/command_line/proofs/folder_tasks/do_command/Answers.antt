@@ -3,6 +3,7 @@ use Rattle.std.specs.Prelude.{⊤}
 use Rattle.event_json.specs.Sites.{named}
 use Rattle.frame_core.specs.Numbers.{Recall}
 use Rattle.recall_outcomes.specs.declared.notes.Notes.{Notes}
+use Rattle.recall_outcomes.specs.declared.notes.Notes.TheVariants.{Nothing}
 use Rattle.recall_outcomes.specs.declared.outcomes.Outcome.{Outcome}
 use Rattle.site_core.specs.declared.inputs.SiteInput.TheVariants as inputs
 use Rattle.site_folders.specs.FileCalls.{Led}
@@ -11,6 +12,7 @@ use Rattle.site_folders.specs.Refusals.{IsNoSite}
 use Rattle.folder_questions.specs.Asked.{AsksItem, AsksRecall, RefusesItem, RefusesRecall}
 use Rattle.folder_questions.specs.Audits.{AnswersAudit}
 use Rattle.folder_questions.specs.DryStarts.{AnswersDryStart}
+use Rattle.folder_questions.specs.Gaps.{AnswersGaps}
 use Rattle.folder_questions.specs.Reports.{AnswersReport}
 use Rattle.folder_questions.specs.SiteItems.{AnswersItems}
 use Rattle.folder_questions.specs.Standings.{AnswersRecall}
@@ -60,17 +62,17 @@ pub returns-in_ok-ask-in-Report-clause-led : goal.returns-in_ok-ask-in-Report-cl
 returns-in_ok-ask-in-Report-clause-led g c =
     let recall = c.in-Report.recall.now in
     rw c.in-Report.is
-    (plainly_led g.F.Files.does
-    (AsksAll {Q = Recall} g.K.SiteKeeper.shown g.K.SiteKeeper.stored c.in-Report.folder.now (λ sites outcome. RefusesRecall recall sites outcome) (λ sites r. AsksRecall recall sites r)
-    (λ r rs outcome. AnswersReport rs r c.in-Report.ways c.in-Report.events outcome))
-    c.args.files.now c.ask.new.files c.in_ok-ask-in-Report.field-0 c.plain.result c.plain.ensures.sites c.plain.ensures.outcome c.plain.ensures.silent c.in_ok-ask-in-Report.ensures.answered)
+    (noted_led g.F.Files.does
+    (AsksAll {Q = Recall} {A = Outcome × Notes} g.K.SiteKeeper.shown g.K.SiteKeeper.stored c.in-Report.folder.now (λ sites told. RefusesRecall recall sites told.0 × (told.1 ≡ Nothing)) (λ sites r. AsksRecall recall sites r)
+    (λ r rs told. AnswersReport rs r c.in-Report.ways c.in-Report.events told.0 told.1))
+    c.args.files.now c.ask.new.files c.in_ok-ask-in-Report.field-0 c.with_notes.result c.with_notes.ensures.sites c.with_notes.ensures.outcome c.with_notes.ensures.notes c.in_ok-ask-in-Report.ensures.answered)
 
 pub returns-in_ok-ask-in-Audit-clause-led : goal.returns-in_ok-ask-in-Audit-clause-led
 returns-in_ok-ask-in-Audit-clause-led g c =
     rw c.in-Audit.is
     (noted_led g.F.Files.does
     (AsksAll {Q = ⊤} {A = Outcome × Notes} g.K.SiteKeeper.shown g.K.SiteKeeper.stored c.in-Audit.folder.now (λ sites told. ⊥) (λ sites asked. ⊤) (λ asked rs told. AnswersAudit rs told.0 told.1))
-    c.args.files.now c.ask-in-Audit.new.files c.in_ok-ask-in-Audit.field-0 c.with_notes.result c.with_notes.ensures.sites c.with_notes.ensures.outcome c.with_notes.ensures.notes c.in_ok-ask-in-Audit.ensures.answered)
+    c.args.files.now c.ask-in-Audit.new.files c.in_ok-ask-in-Audit.field-0 c.with_notes-in-Audit.result c.with_notes-in-Audit.ensures.sites c.with_notes-in-Audit.ensures.outcome c.with_notes-in-Audit.ensures.notes c.in_ok-ask-in-Audit.ensures.answered)
 
 pub returns-in_ok-ask-in-Trace-clause-led : goal.returns-in_ok-ask-in-Trace-clause-led
 returns-in_ok-ask-in-Trace-clause-led g c =
@@ -84,11 +86,11 @@ returns-in_ok-ask-in-Trace-clause-led g c =
     let ways = c.in-Trace.ways in
     let events = c.in-Trace.events in
     rw c.in-Trace.is
-    (and_who does shown stored folder (record { site = site; item = item }) (Traces shown stored folder site.now item back ways events) c.args.files.now c.ask-in-Trace.new.files c.with_knowers-in-Trace.new.files c.plain-first-in-Trace.result c.with_knowers-in-Trace.result
-    (plainly_led does
-    (AsksAll {Q = ℕ × List ℕ} shown stored folder (λ sites outcome. RefusesItem site.now item sites outcome) (λ sites asked. AsksItem site.now item sites asked.0 asked.1)
-    (λ asked rs outcome. AnswersTrace rs asked.0 asked.1 back ways events outcome))
-    c.args.files.now c.ask-in-Trace.new.files c.in_ok-ask-in-Trace.field-0 c.plain-first-in-Trace.result c.plain-first-in-Trace.ensures.sites c.plain-first-in-Trace.ensures.outcome c.plain-first-in-Trace.ensures.silent
+    (and_who does shown stored folder (record { site = site; item = item }) (Traces shown stored folder site.now item back ways events) c.args.files.now c.ask-in-Trace.new.files c.with_knowers-in-Trace.new.files c.with_notes-first.result c.with_knowers-in-Trace.result
+    (noted_led does
+    (AsksAll {Q = ℕ × List ℕ} {A = Outcome × Notes} shown stored folder (λ sites told. RefusesItem site.now item sites told.0 × (told.1 ≡ Nothing)) (λ sites asked. AsksItem site.now item sites asked.0 asked.1)
+    (λ asked rs told. AnswersTrace rs asked.0 asked.1 back ways events told.0 told.1))
+    c.args.files.now c.ask-in-Trace.new.files c.in_ok-ask-in-Trace.field-0 c.with_notes-first.result c.with_notes-first.ensures.sites c.with_notes-first.ensures.outcome c.with_notes-first.ensures.notes
     c.in_ok-ask-in-Trace.ensures.answered)
     c.with_knowers-in-Trace.ensures)
 
@@ -111,3 +113,11 @@ returns-in_ok-ask_site-in-Items-clause-led g c =
     (λ asked r outcome. AnswersItems c.in-Items.text.now r outcome))
     c.args.files.now c.ask_site-in-Items.new.files c.in_ok-ask_site-in-Items.field-0 c.plain-in-Items.result c.plain-in-Items.ensures.sites c.plain-in-Items.ensures.outcome c.plain-in-Items.ensures.silent
     c.in_ok-ask_site-in-Items.ensures.answered)
+
+pub returns-in_ok-ask-in-Gaps-clause-led : goal.returns-in_ok-ask-in-Gaps-clause-led
+returns-in_ok-ask-in-Gaps-clause-led g c =
+    rw c.in-Gaps.is
+    (plainly_led g.F.Files.does
+    (AsksAll {Q = ⊤} g.K.SiteKeeper.shown g.K.SiteKeeper.stored c.in-Gaps.folder.now (λ sites outcome. ⊥) (λ sites asked. ⊤) (λ asked rs outcome. AnswersGaps rs c.in-Gaps.coded outcome))
+    c.args.files.now c.ask-in-Gaps.new.files c.in_ok-ask-in-Gaps.field-0 c.plain-in-Gaps.result c.plain-in-Gaps.ensures.sites c.plain-in-Gaps.ensures.outcome c.plain-in-Gaps.ensures.silent
+    c.in_ok-ask-in-Gaps.ensures.answered)

@@ -24,4 +24,5 @@ returns c =
     let eighth = adds_command _ _ _ _ _ c.in_ok-subcommand-7.ensures seventh c.in_ok-trace.ensures refl in
     let ninth = adds_command _ _ _ _ _ c.in_ok-subcommand-8.ensures eighth c.in_ok-status.ensures refl in
     let tenth = adds_command _ _ _ _ _ c.in_ok-subcommand-9.ensures ninth c.in_ok-items.ensures refl in
-    IfOk-weaker c.subcommand-11.result _ _ (λ command adds. adds_command _ _ command _ _ adds tenth c.in_ok-lint.ensures refl) c.subcommand-11.ensures
+    let eleventh = adds_command _ _ _ _ _ c.in_ok-subcommand-10.ensures tenth c.in_ok-lint.ensures refl in
+    IfOk-weaker c.subcommand-12.result _ _ (λ command adds. adds_command _ _ command _ _ adds eleventh c.in_ok-gaps.ensures refl) c.subcommand-12.ensures
