@@ -1,15 +1,15 @@
 -- The first events that relate two pairs, by the places that stand under their items.
-use Rattle.std.proofs.Common.{◌≡◌, ◌≢◌, ◌↔◌, inl, inr, ℕ, ◌≤◌, List, length, slice_get, Option, Some, None, refl, sym, ap, ◌∙◌, subst, ⊎_elim, arith}
+use Rattle.std.proofs.Common.{◌≡◌, ◌≢◌, ◌↔◌, inl, inr, ℕ, ◌≤◌, List, [], ◌∷◌, length, slice_get, Option, Some, None, refl, sym, ap, ◌∙◌, subst, ⊎_elim, arith}
 use Rattle.std.specs.BTreeMap.{get}
 use Rattle.std.specs.BTreeSet.{BTreeSet}
 use Rattle.std.specs.List.{Contains}
 use Rattle.std.specs.Ordering.{nat_cmp}
-use Rattle.std.proofs.lemmas.Option.{slice_get-get_or, slice_get_within}
+use Rattle.std.proofs.lemmas.Option.{slice_get-get_or, slice_get_within, get_or_from_slice_get}
 use Rattle.event_json.specs.Events.{Content}
 use Rattle.event_json.specs.declared.bodies.Body.{Body}
 use Rattle.event_json.specs.declared.bodies.Body.TheVariants.{Note, Ship, Make, Pack}
 use Rattle.trace_core.specs.Groups.{IsPartOf, first_of}
-use Rattle.trace_core.specs.Pairs.{GivesOut, IsCarriedWith, IsMadeOf, IsSentTo, Ships, make_id}
+use Rattle.trace_core.specs.Pairs.{GivesOut, IsCarriedWith, IsMadeOf, IsSentTo, Ships, TakesIn, make_id}
 use Rattle.trace_core.specs.Searches.{IsFound}
 use Rattle.trace_core.specs.Sites.{SiteEvents}
 use Rattle.trace_core.specs.declared.pairs.Pair.{Pair}
@@ -18,15 +18,14 @@ use Rattle.trace_core.proofs.NumberLists.{some_is, none_is}
 use Rattle.trace_core.proofs.PairTestsDecide.{same_id_decides}
 use Rattle.site_core.specs.ItemSets.{item_cmp}
 use Rattle.report_core.specs.TrailEvents.{AnswersStep, AreOfOneMake, GivesOutWith, IsFirstOrNone, IsFirstShipment, ShipsAt, StandsAt, TakesInAt}
-use Rattle.report_core.specs.FirstPlaces.{AnswersMake, AnswersShipment, AreShipments, Goes, IsGroupAt, IsOfOne, IsOneOf, ShipsOff, TellsEvent}
-use Rattle.report_core.specs.Sources.{AreOwnPlaces, ArePlaces, ByOne, Index, IsNotedAt, Notes, ShipsItself, or_no_places}
+use Rattle.report_core.specs.FirstPlaces.{AnswersMake, AnswersShipment, AreShipments, Goes, IsContainerAt, IsGroupAt, IsOfOne, IsOneOf, ShipsOff, TellsEvent}
+use Rattle.report_core.specs.Sources.{Among, AreItemPlaces, AreOwnPlaces, ArePlaces, ByOne, Index, IsNotedAt, ShipsItself, or_no_places}
 use Rattle.report_core.specs.declared.trail_events.CapturedEvent.{CapturedEvent}
 use Rattle.report_core.specs.declared.trail_events.StepEvents.{StepEvents}
 use Rattle.report_core.specs.declared.trail_events.StepEvents.TheVariants.{Shipped, Made}
 use Rattle.report_core.specs.declared.makers.EventPlace.{EventPlace}
-use Rattle.report_core.specs.declared.makers.Noting.{Noting}
-use Rattle.report_core.specs.declared.makers.Noting.TheVariants as notings
 use Rattle.report_core.proofs.FirstFound.{first_alike}
+use Rattle.report_core.proofs.LiesInItems.{fills_packed}
 
 -- two events are parts of one transformation just where it has one first part
 group_joined : (events : List Content) (n m first : ℕ) → IsPartOf events n first → IsPartOf events m first → AreOfOneMake events n m
@@ -63,19 +62,39 @@ goes_with events item site (Ship items sites outside) = (
 
 module _ (sites : List SiteEvents) (number : ℕ) (s : SiteEvents) (stands : slice_get sites number ≡ Some s) where
   -- what stands under an item, of the site
-  listed : (noting : Noting) (index : Index) → ArePlaces noting index sites → (item : List ℕ) (places : List EventPlace) → places ≡ or_no_places (get item_cmp index item)
-      → (p : EventPlace) → number ≡ p.site → Contains places p ↔ StandsAt s.events (Notes noting item) p.event
-  listed noting index are item places lent p here = (
+  listed : (N : List ℕ → Body → Type 0) (index : Index) → ArePlaces N index sites → (item : List ℕ) (places : List EventPlace) → places ≡ or_no_places (get item_cmp index item)
+      → (p : EventPlace) → number ≡ p.site → Contains places p ↔ StandsAt s.events (N item) p.event
+  listed N index are item places lent p here = (
     λ h.
         let (t, at, noted) = (are (item, p)).0 (subst (λ ps. Contains ps p) lent h) in
         let one : t ≡ s = some_is t s (sym at ∙ ap (slice_get sites) (sym here) ∙ stands) in
-        subst (λ (u : SiteEvents). IsNotedAt noting u.events item p.event) one noted,
+        subst (λ (u : SiteEvents). IsNotedAt N u.events item p.event) one noted,
     λ noted. subst (λ ps. Contains ps p) (sym lent) ((are (item, p)).1 (s, subst (λ n. slice_get sites n ≡ Some s) here stands, noted)),
   )
 
+  -- so under one that is wanted
+  listed_wanted : (items : BTreeSet (List ℕ)) (N : List ℕ → Body → Type 0) (index : Index) → ArePlaces (Among items N) index sites → (item : List ℕ) → IsFound item_cmp items item
+      → (places : List EventPlace) → places ≡ or_no_places (get item_cmp index item) → (p : EventPlace) → number ≡ p.site → Contains places p ↔ StandsAt s.events (N item) p.event
+  listed_wanted items N index are item wanted places lent p here =
+      let all = listed (Among items N) index are item places lent p here in (
+        λ h. let (e, stands', (among, told)) = all.0 h in (e, stands', told),
+        λ (e, stands', told). all.1 (e, stands', (wanted, told)),
+      )
+
   -- those of the site alone
-  pub own_places : (noting : Noting) (index : Index) → ArePlaces noting index sites → AreOwnPlaces noting s.events number index
-  own_places noting index are item p here = listed noting index are item (or_no_places (get item_cmp index item)) refl p here
+  pub own_places : (N : List ℕ → Body → Type 0) (index : Index) → ArePlaces N index sites → AreOwnPlaces N s.events number index
+  own_places N index are item p here = listed N index are item (or_no_places (get item_cmp index item)) refl p here
+
+  -- those of the shipments of what carried a wanted item
+  pub carrier_places : (items : BTreeSet (List ℕ)) (sent : Index) → ArePlaces (Among items ShipsItself) sent sites → ((i : List ℕ) → ByOne sites IsContainerAt i → IsFound item_cmp items i)
+      → (item : List ℕ) → IsFound item_cmp items item → (carrier : List ℕ) → IsCarriedWith s.events carrier item → AreItemPlaces ShipsItself s.events number sent carrier
+  carrier_places items sent are all item found carrier carried p here =
+      listed_wanted items ShipsItself sent are carrier (carrier_found carried) (or_no_places (get item_cmp sent carrier)) refl p here
+    where
+      carrier_found : IsCarriedWith s.events carrier item → IsFound item_cmp items carrier
+      carrier_found ([], chain, ends) = subst (IsFound item_cmp items) (sym ends) found
+      carrier_found (next ∷ rest, ((k, e, below, at, packs), chain), ends) =
+          all carrier (s, (number, slice_get_within sites number s stands, get_or_from_slice_get sites number s s stands), (k, (e, slice_get-get_or s.events k e below ∙ ap Some at, fills_packed e.body carrier next packs)))
 
   module _ (item : List ℕ) (places : List EventPlace) (are : AreShipments s.events number item places) (to : ℕ) where
     one_of_shipments : (n : ℕ) → IsOneOf (λ p. (number ≡ p.site) × StandsAt s.events (Goes to) p.event) places n ↔ ShipsAt s.events item to n
@@ -103,13 +122,14 @@ module _ (sites : List SiteEvents) (number : ℕ) (s : SiteEvents) (stands : sli
     pub shipment_found : (n : ℕ) (x : CapturedEvent) → IsFirstOrNone (IsOneOf (λ p. (number ≡ p.site) × StandsAt s.events (Goes to) p.event) places) (Some n) → TellsEvent s.events n (Some x) → AnswersShipment s.events item to (Some (Shipped x))
     shipment_found n x first told = (n, first_alike (IsOneOf (λ p. (number ≡ p.site) × StandsAt s.events (Goes to) p.event) places) (ShipsAt s.events item to) one_of_shipments n first, told)
 
-  module _ (takers givers : Index) (ins : ArePlaces notings.TakenIn takers sites) (outs : ArePlaces notings.GivenOut givers sites) (i j : List ℕ) (taken given : List EventPlace)
+  module _ (items : BTreeSet (List ℕ)) (takers givers : Index) (ins : ArePlaces (Among items TakesIn) takers sites) (outs : ArePlaces (Among items GivesOut) givers sites) (i j : List ℕ)
+      (asked : IsFound item_cmp items i) (asked' : IsFound item_cmp items j) (taken given : List EventPlace)
       (lent : taken ≡ or_no_places (get item_cmp takers i)) (lent' : given ≡ or_no_places (get item_cmp givers j)) (firsts : BTreeSet ℕ)
       (kept : (n : ℕ) → IsFound nat_cmp firsts n ↔ ByOne given (IsGroupAt s.events number) n) where
     one_of_parts : (n m : ℕ) → IsOneOf (λ p. (number ≡ p.site) × AreOfOneMake s.events n p.event) given m ↔ GivesOutWith s.events j n m
     one_of_parts n m = (
-      λ (p, there, at, (here, one)). subst (λ k. GivesOutWith s.events j n k) at ((listed notings.GivenOut givers outs j given lent' p here).0 there, one),
-      λ (gives, one). (record { site = number; event = m }, (listed notings.GivenOut givers outs j given lent' (record { site = number; event = m }) refl).1 gives, refl, (refl, one)),
+      λ (p, there, at, (here, one)). subst (λ k. GivesOutWith s.events j n k) at ((listed_wanted items GivesOut givers outs j asked' given lent' p here).0 there, one),
+      λ (gives, one). (record { site = number; event = m }, (listed_wanted items GivesOut givers outs j asked' given lent' (record { site = number; event = m }) refl).1 gives, refl, (refl, one)),
     )
 
     one_of_makes : (n : ℕ) → IsOneOf (λ p. (number ≡ p.site) × IsOfOne s.events firsts p.event) taken n ↔ TakesInAt s.events i j n
@@ -117,13 +137,13 @@ module _ (sites : List SiteEvents) (number : ℕ) (s : SiteEvents) (stands : sli
       λ (p, there, at, (here, (first, part, found))).
           let (q, there', (here', part')) = (kept first).0 found in
           subst (λ k. TakesInAt s.events i j k) at
-          ((listed notings.TakenIn takers ins i taken lent p here).0 there, (q.event, (one_of_parts p.event q.event).0 (q, there', refl, (here', group_joined s.events p.event q.event first part part')))),
+          ((listed_wanted items TakesIn takers ins i asked taken lent p here).0 there, (q.event, (one_of_parts p.event q.event).0 (q, there', refl, (here', group_joined s.events p.event q.event first part part')))),
       λ ((e, stands', takes), (m, gives)).
           let (q, there', at', (here', one)) = (one_of_parts n m).1 gives in
-          let (f, stands'', gives') = (listed notings.GivenOut givers outs j given lent' q here').0 there' in
+          let (f, stands'', gives') = (listed_wanted items GivesOut givers outs j asked' given lent' q here').0 there' in
           let p : EventPlace = record { site = number; event = n } in (
             p,
-            (listed notings.TakenIn takers ins i taken lent p refl).1 (e, stands', takes),
+            (listed_wanted items TakesIn takers ins i asked taken lent p refl).1 (e, stands', takes),
             refl,
             (
               refl,
@@ -208,17 +228,18 @@ pub no_site : (sites : List SiteEvents) (p q : Pair) → length sites ≤ p.site
 no_site sites p q past (s, at, related) = omega (arith, past, slice_get_within sites p.site s at)
 
 -- the shipments of all that carries an item
-pub carriers_ship : (s : SiteEvents) (number : ℕ) (item : List ℕ) (sent : Index) (carriers : List Pair) (places : List EventPlace) → AreOwnPlaces notings.Sent s.events number sent
+pub carriers_ship : (s : SiteEvents) (number : ℕ) (item : List ℕ) (sent : Index) (carriers : List Pair) (places : List EventPlace) → ((i : List ℕ) → IsCarriedWith s.events i item → AreItemPlaces ShipsItself s.events number sent i)
     → ((p : Pair) → Contains carriers p ↔ ((p.site ≡ s.me) × IsCarriedWith s.events p.item item))
     → ((p : EventPlace) → Contains places p ↔ ByOne carriers (λ (c : Pair). Contains (or_no_places (get item_cmp sent c.item))) p) → AreShipments s.events number item places
 carriers_ship s number item sent carriers places are exact gathered p here = (
   λ there.
       let (c, among, kept) = (gathered p).0 there in
-      let (e, stands, ships) = (are c.item p here).0 kept in
-      (e, stands, ships_off e.body c.item ships ((exact c).0 among).1),
+      let carried = ((exact c).0 among).1 in
+      let (e, stands, ships) = (are c.item carried p here).0 kept in
+      (e, stands, ships_off e.body c.item ships carried),
   λ (e, stands, off).
       let (carrier, ships, carried) = off_ships e.body off in
-      (gathered p).1 (record { site = s.me; item = carrier }, (exact (record { site = s.me; item = carrier })).1 (refl, carried), (are carrier p here).1 (e, stands, ships)),
+      (gathered p).1 (record { site = s.me; item = carrier }, (exact (record { site = s.me; item = carrier })).1 (refl, carried), (are carrier carried p here).1 (e, stands, ships)),
 )
   where
     ships_off : (b : Body) (carrier : List ℕ) → ShipsItself carrier b → IsCarriedWith s.events carrier item → ShipsOff s.events item b

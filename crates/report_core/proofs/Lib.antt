@@ -18,6 +18,7 @@ pub mod Results
 pub mod SourcesFound
 pub mod StepsAlong
 pub mod StepsRelated
+pub mod StepsWanted
 pub mod TimesWritten
 pub mod TrailLengths
 pub mod TrailsBack

@@ -18,9 +18,8 @@ use Rattle.trace_core.proofs.Members.{contains_none}
 use Rattle.trace_core.proofs.NumberLists.{some_is}
 use Rattle.site_core.specs.ItemSets.{item_cmp}
 use Rattle.report_core.specs.Containers.{IsFilledAt, LiesIn}
-use Rattle.report_core.specs.Sources.{AddsToList, AreOwnPlaces, ByOne, Index, or_no_places}
+use Rattle.report_core.specs.Sources.{AddsToList, AreOwnPlaces, ByOne, Index, PutsIn, or_no_places}
 use Rattle.report_core.specs.declared.makers.EventPlace.{EventPlace}
-use Rattle.report_core.specs.declared.makers.Noting.TheVariants as notings
 use Rattle.report_core.proofs.Additions.{adds_alike}
 
 -- what an event fills is what it puts its items into
@@ -32,7 +31,7 @@ packs_filled (Pack Add own children) parent item container (add, is, there) fill
 packs_filled (Pack Observe own children) parent item container (add, is, there) fills = absurd (observes add)
 packs_filled (Pack Delete own children) parent item container (add, is, there) fills = absurd (deletes add)
 
-fills_packed : (b : Body) (parent item : List ℕ) → Packs parent item b → filled b ≡ Some parent
+pub fills_packed : (b : Body) (parent item : List ℕ) → Packs parent item b → filled b ≡ Some parent
 fills_packed (Note items) parent item packs = absurd packs
 fills_packed (Ship items sites outside) parent item packs = absurd packs
 fills_packed (Make id ins outs) parent item packs = absurd packs
@@ -58,7 +57,7 @@ all_filled events number packings p none found places seen seen' nothing lent ad
   given = λ q h. absurd h;
 }
 
-module _ (events : List Content) (number : ℕ) (packings : Index) (are : AreOwnPlaces notings.PutIn events number packings) where
+module _ (events : List Content) (number : ℕ) (packings : Index) (are : AreOwnPlaces PutsIn events number packings) where
   lies_in : (p q : Pair) → LiesIn events number packings p q ↔ ((q.site ≡ p.site) × Carries events q.item p.item)
   lies_in p q = (
     λ (place, kept, (at, (here, (e, stands, fills)))).

@@ -35,7 +35,6 @@ use Rattle.report_core.specs.Gathering.{Adds, BodyTells, CarrierTells, Found, Fi
 use Rattle.report_core.specs.Outside.{ShipsOut, WentOut, IsOutsideOf, AreOutsideOf}
 use Rattle.report_core.specs.Sources.{AreSitePlaces, Index, ShipsItself}
 use Rattle.report_core.specs.declared.makers.EventPlace.{EventPlace}
-use Rattle.report_core.specs.declared.makers.Noting.TheVariants.{Sent}
 use Rattle.report_core.specs.declared.outside.OutsideShipment.{OutsideShipment}
 use Rattle.report_core.proofs.Adding.{added_alike, outside_total, outside_exact}
 
@@ -66,7 +65,7 @@ pub none_at : (events : List Content) (site : ℕ) (item : List ℕ) (place : Ev
 none_at events site item place none x (e, stands, tells) = none_is e (sym none ∙ stands)
 
 -- the shipments of all that carries an item, as they stand under it
-pub item_told : (s : SiteEvents) (number site : ℕ) (item : List ℕ) (shipments : Index) (carriers : List Pair) → AreSitePlaces Sent s number shipments
+pub item_told : (s : SiteEvents) (number site : ℕ) (item : List ℕ) (shipments : Index) (carriers : List Pair) → AreSitePlaces ShipsItself s number shipments
     → ((p : Pair) → Contains carriers p ↔ ((p.site ≡ s.me) × IsCarriedWith s.events p.item item)) → (x : OutsideShipment)
     → OneTells carriers (CarrierTells s.events shipments site item) x ↔ ItemTells s.events site item x
 item_told s number site item shipments carriers are exact x = (

@@ -1,7 +1,9 @@
 -- What an index of items has after a place is noted under one of them.
 use Rattle.std.proofs.Common.{◌≡◌, ◌≢◌, ◌↔◌, inl, inr, ℕ, ◌+◌, ◌<◌, ◌≤◌, false, List, [], ◌∷◌, ◌++◌, length, slice_get, Option, Some, None, refl, sym, ap, ◌∙◌, subst, ⊎_elim, arith}
 use mathlib.Core.Logic.{◌⊎◌}
+use Rattle.std.specs.Borrow.{Bor}
 use Rattle.std.specs.BTreeMap.{UpdatesBy, get, is_at}
+use Rattle.std.specs.BTreeSet.{BTreeSet}
 use Rattle.std.specs.FinMap.{IsAntisymmetric}
 use Rattle.std.specs.List.{Contains}
 use Rattle.std.specs.Map.{lookup}
@@ -12,21 +14,18 @@ use Rattle.std.proofs.lemmas.Bool.{cases_lt}
 use Rattle.std.proofs.lemmas.Option.{slice_get_within}
 use Rattle.event_json.specs.Events.{Content}
 use Rattle.event_json.specs.declared.bodies.Body.{Body}
-use Rattle.event_json.specs.declared.bodies.Action.TheVariants.{Add, Observe, Delete}
-use Rattle.event_json.specs.declared.bodies.Body.TheVariants.{Note, Make, Pack, Ship}
 use Rattle.frame_core.proofs.Lookups.{one_key}
-use Rattle.trace_core.specs.Pairs.{GivesOut, TakesIn}
+use Rattle.trace_core.specs.Searches.{IsFound}
 use Rattle.trace_core.specs.Sites.{SiteEvents}
-use Rattle.trace_core.proofs.Carrying.{deletes, no_parent, observes}
 use Rattle.trace_core.proofs.Members.{contains_none}
 use Rattle.trace_core.proofs.NumberLists.{some_is}
 use Rattle.trace_core.proofs.SetMembers.{contains_pushed}
 use Rattle.site_core.specs.ItemSets.{item_cmp}
 use Rattle.site_core.proofs.ItemOrder.{item_total, item_exact}
-use Rattle.report_core.specs.Sources.{AddsTo, AreOwnPlaces, ArePlaces, AreSitePlaces, ByOne, Index, IsNotedAt, Keeps, Notes, PutsIn, ShipsItself, SiteNotes, SitesNote, or_no_places, put_in}
+use Rattle.report_core.specs.Sources.{AddsTo, AreOwnPlaces, ArePlaces, AreSitePlaces, ByOne, Index, IsNotedAt, IsWanted, Keeps, Notes, NotesOf, SiteNotes, SitesNote, or_no_places}
 use Rattle.report_core.specs.declared.makers.EventPlace.{EventPlace}
 use Rattle.report_core.specs.declared.makers.Noting.{Noting}
-use Rattle.report_core.proofs.Additions.{adds_alike, adds_then}
+use Rattle.report_core.proofs.Additions.{adds_alike, adds_nothing, adds_then}
 
 -- a query doesn't find another key
 other_key : {K : Type 0} {R : K → K → Ordering} → IsAntisymmetric R → (k q : K) → q ≢ k → is_eq (R k q) ≡ false
@@ -69,76 +68,54 @@ first_noted old mid new i j ks place same copied absent upd first =
     (subst (λ (x : Index). UpdatesBy item_cmp (item_cmp j) x new (Some ks)) same upd) in
     place_noted old new i ks at place None absent first
 
--- each of some items
-abbrev pub NotesEach : List (List ℕ) → EventPlace → List ℕ × EventPlace → Type 0
-NotesEach items place = ByOne items (λ i m. (i ≡ m.0) × (place ≡ m.1))
+-- an item that is wanted is noted, and no other
+pub wanted_noted : (old new : Index) (W : Type 0) (i : List ℕ) (place : EventPlace) → W → AddsTo (Keeps old) (Keeps new) (λ m. (i ≡ m.0) × (place ≡ m.1))
+    → AddsTo (Keeps old) (Keeps new) (λ m. W × (i ≡ m.0) × (place ≡ m.1))
+wanted_noted old new W i place wanted = adds_alike (Keeps old) (Keeps new) (λ m. (i ≡ m.0) × (place ≡ m.1)) (λ m. W × (i ≡ m.0) × (place ≡ m.1))
+    (λ m. (λ (same, at). (wanted, same, at), λ (w, same, at). (same, at)))
 
-each_noted : (items listed : List (List ℕ)) (place : EventPlace) → items ≡ listed → (m : List ℕ × EventPlace) → NotesEach items place m ↔ (Contains listed m.0 × (place ≡ m.1))
-each_noted items listed place are m = (
-  λ (i, there, (same, at)). (subst (λ xs. Contains xs m.0) are (subst (Contains items) same there), at),
-  λ (there, at). (m.0, subst (λ xs. Contains xs m.0) (sym are) there, (refl, at)),
-)
+pub unwanted_noted : (index : Index) (W : Type 0) (i : List ℕ) (place : EventPlace) → (W → ⊥) → AddsTo (Keeps index) (Keeps index) (λ m. W × (i ≡ m.0) × (place ≡ m.1))
+unwanted_noted index W i place other = adds_nothing (Keeps index) (λ m. W × (i ≡ m.0) × (place ≡ m.1)) (λ m (wanted, same, at). other wanted)
 
--- each of the outputs of an event
-pub outs_noted : (old new : Index) (body : Body) (id : Option (List ℕ)) (ins outs items : List (List ℕ)) (place : EventPlace) → body ≡ Make id ins outs → items ≡ outs
-    → AddsTo (Keeps old) (Keeps new) (NotesEach items place) → AddsTo (Keeps old) (Keeps new) (λ m. GivesOut m.0 body × (place ≡ m.1))
-outs_noted old new body id ins outs items place is are adds =
-    subst (λ (b : Body). AddsTo (Keeps old) (Keeps new) (λ m. GivesOut m.0 b × (place ≡ m.1))) (sym is)
-    (adds_alike (Keeps old) (Keeps new) (NotesEach items place) (λ m. Contains outs m.0 × (place ≡ m.1)) (each_noted items outs place are) adds)
+-- each of some items that is wanted
+abbrev pub NotesEach : Option (Bor (BTreeSet (List ℕ))) → List (List ℕ) → EventPlace → List ℕ × EventPlace → Type 0
+NotesEach wanted items place = ByOne items (λ i m. IsWanted wanted i × (i ≡ m.0) × (place ≡ m.1))
 
--- each of its inputs
-pub ins_noted : (old new : Index) (body : Body) (id : Option (List ℕ)) (ins outs items : List (List ℕ)) (place : EventPlace) → body ≡ Make id ins outs → items ≡ ins
-    → AddsTo (Keeps old) (Keeps new) (NotesEach items place) → AddsTo (Keeps old) (Keeps new) (λ m. TakesIn m.0 body × (place ≡ m.1))
-ins_noted old new body id ins outs items place is are adds =
-    subst (λ (b : Body). AddsTo (Keeps old) (Keeps new) (λ m. TakesIn m.0 b × (place ≡ m.1))) (sym is)
-    (adds_alike (Keeps old) (Keeps new) (NotesEach items place) (λ m. Contains ins m.0 × (place ≡ m.1)) (each_noted items ins place are) adds)
+module _ (noting : Noting) (body : Body) (items : List (List ℕ)) (listed : (i : List ℕ) → Contains items i ↔ Notes noting i body) (place : EventPlace) where
+  each_noted : (wanted : Option (Bor (BTreeSet (List ℕ)))) (m : List ℕ × EventPlace) → NotesEach wanted items place m ↔ (NotesOf wanted noting m.0 body × (place ≡ m.1))
+  each_noted None m = (
+    λ (i, there, (any, same, at)). ((listed m.0).0 (subst (Contains items) same there), at),
+    λ (notes, at). (m.0, (listed m.0).1 notes, (tt, refl, at)),
+  )
+  each_noted (Some wanted) m = (
+    λ (i, there, (among, same, at)). ((subst (IsFound item_cmp wanted.now) same among, (listed m.0).0 (subst (Contains items) same there)), at),
+    λ ((among, notes), at). (m.0, (listed m.0).1 notes, (among, refl, at)),
+  )
 
--- each of the items of a shipment
-pub sent_noted : (old new : Index) (body : Body) (shipped : List (List ℕ)) (sites : List ℕ) (outside items : List (List ℕ)) (place : EventPlace) → body ≡ Ship shipped sites outside → items ≡ shipped
-    → AddsTo (Keeps old) (Keeps new) (NotesEach items place) → AddsTo (Keeps old) (Keeps new) (λ m. ShipsItself m.0 body × (place ≡ m.1))
-sent_noted old new body shipped sites outside items place is are adds =
-    subst (λ (b : Body). AddsTo (Keeps old) (Keeps new) (λ m. ShipsItself m.0 b × (place ≡ m.1))) (sym is)
-    (adds_alike (Keeps old) (Keeps new) (NotesEach items place) (λ m. Contains shipped m.0 × (place ≡ m.1)) (each_noted items shipped place are) adds)
+  pub body_noted : (old new : Index) (wanted : Option (Bor (BTreeSet (List ℕ)))) → AddsTo (Keeps old) (Keeps new) (NotesEach wanted items place)
+      → AddsTo (Keeps old) (Keeps new) (λ m. NotesOf wanted noting m.0 body × (place ≡ m.1))
+  body_noted old new wanted = adds_alike (Keeps old) (Keeps new) (NotesEach wanted items place) (λ m. NotesOf wanted noting m.0 body × (place ≡ m.1)) (each_noted wanted)
 
--- what an event puts into something
-puts_in : (body : Body) (i : List ℕ) → Contains (put_in body) i ↔ PutsIn i body
-puts_in (Note items) i = (λ h. absurd (contains_none i h), λ h. absurd h.1)
-puts_in (Ship items sites outside) i = (λ h. absurd (contains_none i h), λ h. absurd h.1)
-puts_in (Make id ins outs) i = (λ h. absurd (contains_none i h), λ h. absurd h.1)
-puts_in (Pack Add None children) i = (λ h. absurd (contains_none i h), λ (x, (a, is, there)). absurd (no_parent x is))
-puts_in (Pack Add (Some parent) children) i = (λ h. (parent, (refl, refl, h)), λ (x, (a, is, there)). there)
-puts_in (Pack Observe parent children) i = (λ h. absurd (contains_none i h), λ (x, (a, is, there)). absurd (observes a))
-puts_in (Pack Delete parent children) i = (λ h. absurd (contains_none i h), λ (x, (a, is, there)). absurd (deletes a))
-
--- each of the items that an event puts into something
-pub put_noted : (old new : Index) (body : Body) (items : List (List ℕ)) (place : EventPlace) → items ≡ put_in body
-    → AddsTo (Keeps old) (Keeps new) (NotesEach items place) → AddsTo (Keeps old) (Keeps new) (λ m. PutsIn m.0 body × (place ≡ m.1))
-put_noted old new body items place are = adds_alike (Keeps old) (Keeps new) (NotesEach items place) (λ m. PutsIn m.0 body × (place ≡ m.1))
-    (λ m. let each = each_noted items (put_in body) place are m in (
-      λ h. let (there, at) = each.0 h in ((puts_in body m.0).0 there, at),
-      λ (puts, at). each.1 ((puts_in body m.0).1 puts, at),
-    ))
-
-module _ (noting : Noting) (s : SiteEvents) (number : ℕ) where
+module _ (N : List ℕ → Body → Type 0) (s : SiteEvents) (number : ℕ) where
   -- those of the events before the place
   abbrev pub NotesBefore : ℕ → List ℕ × EventPlace → Type 0
-  NotesBefore place m = (m.1.event < place) × SiteNotes noting s number m
+  NotesBefore place m = (m.1.event < place) × SiteNotes N s number m
 
   pub none_before : (m : List ℕ × EventPlace) → NotesBefore 0 m → ⊥
   none_before m (before, makes) = omega (arith, before)
 
   -- the event at the place is one more
   pub event_noted : (start old new : Index) (place : ℕ) (e : Content) (body : Body) (at : EventPlace) → slice_get s.events place ≡ Some e → body ≡ e.body → at ≡ record { site = number; event = place }
-      → AddsTo (Keeps start) (Keeps old) (NotesBefore place) → AddsTo (Keeps old) (Keeps new) (λ m. Notes noting m.0 body × (at ≡ m.1)) → AddsTo (Keeps start) (Keeps new) (NotesBefore (place + 1))
+      → AddsTo (Keeps start) (Keeps old) (NotesBefore place) → AddsTo (Keeps old) (Keeps new) (λ m. N m.0 body × (at ≡ m.1)) → AddsTo (Keeps start) (Keeps new) (NotesBefore (place + 1))
   event_noted start old new place e body at stands is here before adds =
-      adds_alike (Keeps start) (Keeps new) (λ m. NotesBefore place m ⊎ (Notes noting m.0 body × (at ≡ m.1))) (NotesBefore (place + 1))
+      adds_alike (Keeps start) (Keeps new) (λ m. NotesBefore place m ⊎ (N m.0 body × (at ≡ m.1))) (NotesBefore (place + 1))
       (λ m. (
         λ h. ⊎_elim
             (λ (sooner, makes). (omega (arith, sooner), makes))
             (λ (gives, same).
             let there : record { site = number; event = place } ≡ m.1 = sym here ∙ same in
             let event : place ≡ m.1.event = ap (λ (p : EventPlace). p.event) there in
-            (omega (arith, event), (ap (λ (p : EventPlace). p.site) there, (e, subst (λ n. slice_get s.events n ≡ Some e) event stands, subst (Notes noting m.0) is gives))))
+            (omega (arith, event), (ap (λ (p : EventPlace). p.site) there, (e, subst (λ n. slice_get s.events n ≡ Some e) event stands, subst (N m.0) is gives))))
             h,
         λ (sooner, (site, (f, stands', gives))). ⊎_elim
             (λ earlier. inl (earlier, (site, (f, stands', gives))))
@@ -146,22 +123,22 @@ module _ (noting : Noting) (s : SiteEvents) (number : ℕ) where
             let event : place ≡ m.1.event = omega (arith, sooner, past) in
             let one : f ≡ e = some_is f e (sym stands' ∙ ap (slice_get s.events) (sym event) ∙ stands) in
             let there : record { site = number; event = place } ≡ m.1 = λ k. record { site = site k; event = event k } in
-            inr (subst (Notes noting m.0) (sym is) (subst (λ (g : Content). Notes noting m.0 g.body) one gives), here ∙ there))
+            inr (subst (N m.0) (sym is) (subst (λ (g : Content). N m.0 g.body) one gives), here ∙ there))
             (cases_lt m.1.event place),
       ))
-      (adds_then (Keeps start) (Keeps old) (Keeps new) (NotesBefore place) (λ m. Notes noting m.0 body × (at ≡ m.1)) before adds)
+      (adds_then (Keeps start) (Keeps old) (Keeps new) (NotesBefore place) (λ m. N m.0 body × (at ≡ m.1)) before adds)
 
   -- all events are gone through
-  pub events_noted : (start new : Index) (place : ℕ) → length s.events ≤ place → AddsTo (Keeps start) (Keeps new) (NotesBefore place) → AddsTo (Keeps start) (Keeps new) (SiteNotes noting s number)
-  events_noted start new place past = adds_alike (Keeps start) (Keeps new) (NotesBefore place) (SiteNotes noting s number)
+  pub events_noted : (start new : Index) (place : ℕ) → length s.events ≤ place → AddsTo (Keeps start) (Keeps new) (NotesBefore place) → AddsTo (Keeps start) (Keeps new) (SiteNotes N s number)
+  events_noted start new place past = adds_alike (Keeps start) (Keeps new) (NotesBefore place) (SiteNotes N s number)
       (λ m. (λ h. h.1, λ (site, (e, stands, gives)). (omega (arith, past, slice_get_within s.events m.1.event e stands), (site, (e, stands, gives)))))
 
-module _ (noting : Noting) (sites : List SiteEvents) where
+module _ (N : List ℕ → Body → Type 0) (sites : List SiteEvents) where
   -- those of the sites before the place
   abbrev pub ArePlacesBefore : ℕ → Index → Type 0
-  ArePlacesBefore number index = (m : List ℕ × EventPlace) → Keeps index m ↔ ((m.1.site < number) × SitesNote noting sites m)
+  ArePlacesBefore number index = (m : List ℕ × EventPlace) → Keeps index m ↔ ((m.1.site < number) × SitesNote N sites m)
 
-  pub site_noted : (old new : Index) (number : ℕ) (s : SiteEvents) → slice_get sites number ≡ Some s → ArePlacesBefore number old → AddsTo (Keeps old) (Keeps new) (SiteNotes noting s number) → ArePlacesBefore (number + 1) new
+  pub site_noted : (old new : Index) (number : ℕ) (s : SiteEvents) → slice_get sites number ≡ Some s → ArePlacesBefore number old → AddsTo (Keeps old) (Keeps new) (SiteNotes N s number) → ArePlacesBefore (number + 1) new
   site_noted old new number s stands before adds m = (
     λ h. ⊎_elim
         (λ was. let (sooner, makes) = (before m).0 was in (omega (arith, sooner), makes))
@@ -172,11 +149,11 @@ module _ (noting : Noting) (sites : List SiteEvents) where
         (λ past.
         let site : number ≡ m.1.site = omega (arith, sooner, past) in
         let one : t ≡ s = some_is t s (sym stands' ∙ ap (slice_get sites) (sym site) ∙ stands) in
-        (adds m).1 (inr (site, subst (λ (u : SiteEvents). IsNotedAt noting u.events m.0 m.1.event) one gives)))
+        (adds m).1 (inr (site, subst (λ (u : SiteEvents). IsNotedAt N u.events m.0 m.1.event) one gives)))
         (cases_lt m.1.site number),
   )
 
-  pub sites_noted : (index : Index) (number : ℕ) → length sites ≤ number → ArePlacesBefore number index → ArePlaces noting index sites
+  pub sites_noted : (index : Index) (number : ℕ) → length sites ≤ number → ArePlacesBefore number index → ArePlaces N index sites
   sites_noted index number past before m = (
     λ h. ((before m).0 h).1,
     λ (s, stands, gives). (before m).1 (omega (arith, past, slice_get_within sites m.1.site s stands), (s, stands, gives)),
@@ -189,16 +166,16 @@ module _ (noting : Noting) (sites : List SiteEvents) where
   )
 
 -- the places of one site alone
-pub of_one_site : (noting : Noting) (s : SiteEvents) (index : Index) → ArePlaces noting index (s ∷ []) → AreSitePlaces noting s 0 index
-of_one_site noting s index are m = (
+pub of_one_site : (N : List ℕ → Body → Type 0) (s : SiteEvents) (index : Index) → ArePlaces N index (s ∷ []) → AreSitePlaces N s 0 index
+of_one_site N s index are m = (
   λ kept.
       let (t, stands, noted) = (are m).0 kept in
       let below = slice_get_within (s ∷ []) m.1.site t stands in
       let first : 0 ≡ m.1.site = omega (arith, below) in
       let one : t ≡ s = some_is t s (sym stands ∙ ap (slice_get (s ∷ [])) (sym first)) in
-      (first, subst (λ (u : SiteEvents). IsNotedAt noting u.events m.0 m.1.event) one noted),
+      (first, subst (λ (u : SiteEvents). IsNotedAt N u.events m.0 m.1.event) one noted),
   λ (first, noted). (are m).1 (s, ap (slice_get (s ∷ [])) (sym first), noted),
 )
 
-pub site_own : (noting : Noting) (s : SiteEvents) (number : ℕ) (index : Index) → AreSitePlaces noting s number index → AreOwnPlaces noting s.events number index
-site_own noting s number index are item p here = (λ kept. ((are (item, p)).0 kept).1, λ noted. (are (item, p)).1 (here, noted))
+pub site_own : (N : List ℕ → Body → Type 0) (s : SiteEvents) (number : ℕ) (index : Index) → AreSitePlaces N s number index → AreOwnPlaces N s.events number index
+site_own N s number index are item p here = (λ kept. ((are (item, p)).0 kept).1, λ noted. (are (item, p)).1 (here, noted))

@@ -105,7 +105,7 @@ pub not_sent : (s : SiteEvents) (p : Pair) → (IsSentTo s.events p.item p.site 
 not_sent s p none q (here, (apart, item, goes)) = none (subst (λ i. IsSentTo s.events i p.site) (sym item) goes)
 
 -- the sites that references point to
-pub by_sites : (refs : List (Bor SiteEvents)) (P : SiteEvents → Pair → Type 0) (q : Pair) → ByOne refs (λ (r : Bor SiteEvents). P r.now) q ↔ ByOne (sites_at refs) P q
+pub by_sites : {X : Type 0} (refs : List (Bor SiteEvents)) (P : SiteEvents → X → Type 0) (q : X) → ByOne refs (λ (r : Bor SiteEvents). P r.now) q ↔ ByOne (sites_at refs) P q
 by_sites refs P q = (
   λ (r, there, p). (r.now, contains-map (λ (r : Bor SiteEvents). r.now) refs r there, p),
   λ (s, there, p). let (r, at, is) = contains-from_map (λ (r : Bor SiteEvents). r.now) refs s there in (r, at, subst (λ t. P t q) (sym is) p),

@@ -1,14 +1,15 @@
 -- The steps of a trail, place by place, and those that are shown of it.
 use Rattle.std.proofs.Common.{◌≡◌, ℕ, zero, suc, ◌+◌, ◌-◌, ◌<◌, ◌≤◌, List, [], ◌∷◌, ◌++◌, Some, length, get_or, take, drop, slice_get, refl, sym, ap, ◌∙◌, subst, arith}
-use Rattle.std.specs.List.{AllZip}
+use Rattle.std.specs.List.{All, AllZip}
 use Rattle.std.proofs.lemmas.List.{take_all}
+use Rattle.std.proofs.lemmas.List.Elements.{All-more}
 use Rattle.std.proofs.lemmas.Option.{slice_get-get_or}
 use Rattle.trace_core.specs.Relations.{IsChain}
 use Rattle.trace_core.specs.Sites.{SiteEvents}
 use Rattle.trace_core.specs.declared.pairs.Pair.{Pair}
 use Rattle.trace_core.proofs.NumberLists.{some_is, none_is}
 use Rattle.trace_core.proofs.Zips.{zip_more}
-use Rattle.report_core.specs.TrailEvents.{TellsStep, pairs_shown, steps_of}
+use Rattle.report_core.specs.TrailEvents.{TellsStep, or_no_pairs, pairs_shown, steps_of}
 use Rattle.report_core.specs.declared.trail_events.ShownSteps.{ShownSteps}
 use Rattle.report_core.specs.declared.trail_events.ShownSteps.TheVariants.{Each, First, Last}
 use Rattle.report_core.specs.declared.trail_events.StepEvents.{StepEvents}
@@ -36,6 +37,10 @@ pub chain_shown : (R : Pair → Pair → Type 0) (shown : ShownSteps) (trail : L
 chain_shown R Each trail chain = chain
 chain_shown R First trail chain = chain_begins R trail chain
 chain_shown R Last trail chain = chain_ends R (length trail - 2) trail chain
+
+-- the pairs of the trail at a place
+pub trail_there : (all : List (List Pair)) (place : ℕ) → place < length all → or_no_pairs (slice_get all place) ≡ get_or all place []
+trail_there all place below = ap or_no_pairs (slice_get-get_or all place [] below)
 
 -- the step at a place
 step_at : (trail : List Pair) (k : ℕ) (p q : Pair) → slice_get trail k ≡ Some p → slice_get trail (suc k) ≡ Some q → (k < length (steps_of trail)) × ((p, q) ≡ get_or (steps_of trail) k (p, q))
@@ -73,6 +78,22 @@ module _ (pairs : List Pair) (place : ℕ) (some : 0 < place) where
         let is : place - 1 + 1 ≡ place + 1 - 1 = omega (arith, some) in
         subst (λ n. AllZip (λ step. TellsStep sites step.0 step.1) (take n (steps_of pairs)) (told ++ events ∷ [])) is
         (zip_more (λ step. TellsStep sites step.0 step.1) (steps_of pairs) told (place - 1) (p, q) events one.0 one.1 before tells)
+
+    -- what holds of each step holds of this one
+    pub step_holds : (P : Pair × Pair → Type 0) → All P (steps_of pairs) → P (p, q)
+    step_holds P all =
+        let one = step_at pairs (place - 1) p q stands after in
+        subst P (sym one.1) (all (place - 1) (p, q) one.0)
+
+    -- one step more of which it holds
+    pub one_holds : (P : Pair × Pair → Type 0) → All P (take (place - 1) (steps_of pairs)) → P (p, q) → All P (take (place + 1 - 1) (steps_of pairs))
+    one_holds P before holds =
+        let one = step_at pairs (place - 1) p q stands after in
+        let is : place - 1 + 1 ≡ place + 1 - 1 = omega (arith, some) in
+        subst (λ n. All P (take n (steps_of pairs))) is (All-more P (steps_of pairs) (place - 1) (p, q) one.0 before (subst P one.1 holds))
+
+  pub all_hold : (P : Pair × Pair → Type 0) → length pairs ≤ place → All P (take (place - 1) (steps_of pairs)) → All P (steps_of pairs)
+  all_hold P past before = subst (λ steps. All P steps) (take_all (place - 1) (steps_of pairs) (omega (arith, past, steps_long pairs))) before
 
   -- all of them
   pub all_told : (sites : List SiteEvents) (told : List StepEvents) → length pairs ≤ place → AllZip (λ step. TellsStep sites step.0 step.1) (take (place - 1) (steps_of pairs)) told

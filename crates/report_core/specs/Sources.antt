@@ -1,13 +1,14 @@
 -- From which pairs a pair comes: from the item at a site that sent it, and from what was made into it.
-use Rattle.std.specs.Prelude.{◌≡◌, ◌↔◌, ◌⊎◌, ℕ, List, [], Option, None, Some, Any, Contains, slice_get}
+use Rattle.std.specs.Prelude.{◌≡◌, ◌↔◌, ◌⊎◌, ⊤, ℕ, List, [], Option, None, Some, Any, Contains, slice_get}
+use Rattle.std.specs.Borrow.{Bor}
 use Rattle.std.specs.BTreeMap.{BTreeMap, get}
 use Rattle.std.specs.BTreeSet.{BTreeSet}
 use Rattle.event_json.specs.Events.{Content}
-use Rattle.event_json.specs.declared.bodies.Action.TheVariants.{Add, Observe, Delete}
 use Rattle.event_json.specs.declared.bodies.Body.{Body}
 use Rattle.event_json.specs.declared.bodies.Body.TheVariants.{Note, Ship, Make, Pack}
 use Rattle.trace_core.specs.Groups.{IsSeen}
 use Rattle.trace_core.specs.Pairs.{TakesIn, GivesOut, AreOneMake, IsShipped, Packs}
+use Rattle.trace_core.specs.Searches.{IsFound}
 use Rattle.trace_core.specs.Sites.{SiteEvents}
 use Rattle.trace_core.specs.declared.groups.Group.{Group}
 use Rattle.trace_core.specs.declared.pairs.Pair.{Pair}
@@ -52,16 +53,6 @@ ShipsItself item (Pack action parent children) = ⊥
 abbrev pub PutsIn : List ℕ → Body → Type 0
 PutsIn item body = (parent : List ℕ) × Packs parent item body
 
--- the items that an event puts into something
-abbrev pub put_in : Body → List (List ℕ)
-put_in (Note items) = []
-put_in (Ship items sites outside) = []
-put_in (Make id ins outs) = []
-put_in (Pack Add None children) = []
-put_in (Pack Add (Some parent) children) = children
-put_in (Pack Observe parent children) = []
-put_in (Pack Delete parent children) = []
-
 -- an event is noted under the item
 abbrev pub Notes : Noting → List ℕ → Body → Type 0
 Notes TakenIn item body = TakesIn item body
@@ -69,33 +60,51 @@ Notes GivenOut item body = GivesOut item body
 Notes Sent item body = ShipsItself item body
 Notes PutIn item body = PutsIn item body
 
--- at the place stands such an event
-abbrev pub IsNotedAt : Noting → List Content → List ℕ → ℕ → Type 0
-IsNotedAt noting events item place = (e : Content) × (slice_get events place ≡ Some e) × Notes noting item e.body
+-- an event that N tells of an item, and the item is one of these
+abbrev pub Among : BTreeSet (List ℕ) → (List ℕ → Body → Type 0) → List ℕ → Body → Type 0
+Among items N item body = IsFound item_cmp items item × N item body
+
+-- an event is noted under the item, which is one of those that are wanted, any one where none are named
+abbrev pub NotesOf : Option (Bor (BTreeSet (List ℕ))) → Noting → List ℕ → Body → Type 0
+NotesOf None noting item body = Notes noting item body
+NotesOf (Some wanted) noting item body = Among wanted.now (Notes noting) item body
+
+-- the item is one of those that are wanted
+abbrev pub IsWanted : Option (Bor (BTreeSet (List ℕ))) → List ℕ → Type 0
+IsWanted None item = ⊤
+IsWanted (Some wanted) item = IsFound item_cmp wanted.now item
+
+-- at the place stands an event that N tells of the item
+abbrev pub IsNotedAt : (List ℕ → Body → Type 0) → List Content → List ℕ → ℕ → Type 0
+IsNotedAt N events item place = (e : Content) × (slice_get events place ≡ Some e) × N item e.body
 
 -- the site at this place among all has one there
-abbrev pub SiteNotes : Noting → SiteEvents → ℕ → List ℕ × EventPlace → Type 0
-SiteNotes noting s number m = (number ≡ m.1.site) × IsNotedAt noting s.events m.0 m.1.event
+abbrev pub SiteNotes : (List ℕ → Body → Type 0) → SiteEvents → ℕ → List ℕ × EventPlace → Type 0
+SiteNotes N s number m = (number ≡ m.1.site) × IsNotedAt N s.events m.0 m.1.event
 
 -- one of the sites has
-abbrev pub SitesNote : Noting → List SiteEvents → List ℕ × EventPlace → Type 0
-SitesNote noting sites m = (s : SiteEvents) × (slice_get sites m.1.site ≡ Some s) × IsNotedAt noting s.events m.0 m.1.event
+abbrev pub SitesNote : (List ℕ → Body → Type 0) → List SiteEvents → List ℕ × EventPlace → Type 0
+SitesNote N sites m = (s : SiteEvents) × (slice_get sites m.1.site ≡ Some s) × IsNotedAt N s.events m.0 m.1.event
 
--- under each item stand the places of the events that are noted under it, no more and no fewer
-abbrev pub ArePlaces : Noting → Index → List SiteEvents → Type 0
-ArePlaces noting index sites = (m : List ℕ × EventPlace) → Keeps index m ↔ SitesNote noting sites m
+-- under each item stand the places of the events that N tells of it, no more and no fewer
+abbrev pub ArePlaces : (List ℕ → Body → Type 0) → Index → List SiteEvents → Type 0
+ArePlaces N index sites = (m : List ℕ × EventPlace) → Keeps index m ↔ SitesNote N sites m
 
 -- so for one site alone, which stands at this place among all
-abbrev pub AreSitePlaces : Noting → SiteEvents → ℕ → Index → Type 0
-AreSitePlaces noting s number index = (m : List ℕ × EventPlace) → Keeps index m ↔ SiteNotes noting s number m
+abbrev pub AreSitePlaces : (List ℕ → Body → Type 0) → SiteEvents → ℕ → Index → Type 0
+AreSitePlaces N s number index = (m : List ℕ × EventPlace) → Keeps index m ↔ SiteNotes N s number m
 
--- so as to the places of that site
-abbrev pub AreOwnPlaces : Noting → List Content → ℕ → Index → Type 0
-AreOwnPlaces noting events number index = (item : List ℕ) (p : EventPlace) → number ≡ p.site → Keeps index (item, p) ↔ IsNotedAt noting events item p.event
+-- so under one item, as to the places of that site
+abbrev pub AreItemPlaces : (List ℕ → Body → Type 0) → List Content → ℕ → Index → List ℕ → Type 0
+AreItemPlaces N events number index item = (p : EventPlace) → number ≡ p.site → Keeps index (item, p) ↔ IsNotedAt N events item p.event
+
+-- so under each item
+abbrev pub AreOwnPlaces : (List ℕ → Body → Type 0) → List Content → ℕ → Index → Type 0
+AreOwnPlaces N events number index = (item : List ℕ) → AreItemPlaces N events number index item
 
 -- those of the transformations that give it out
 abbrev pub AreMakers : Index → List SiteEvents → Type 0
-AreMakers index sites = ArePlaces GivenOut index sites
+AreMakers index sites = ArePlaces GivesOut index sites
 
 -- the item of the pair is an input, at the pair's site, of the event at the place
 abbrev pub IsInputAt : SiteEvents → ℕ → Pair → Type 0

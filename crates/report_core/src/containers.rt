@@ -4,8 +4,7 @@ ghost use Rattle.trace_core.specs.Pairs.{IsCarriedWith};
 ghost use Rattle.trace_core.specs.PutIn.{filled};
 ghost use Rattle.trace_core.specs.declared.pairs.Pair.{Pair};
 ghost use Rattle.report_core.specs.Containers.{IsFilledAt};
-ghost use Rattle.report_core.specs.Sources.{AddsToList, AreOwnPlaces, ByOne};
-ghost use Rattle.report_core.specs.declared.makers.Noting.TheVariants.{PutIn};
+ghost use Rattle.report_core.specs.Sources.{AddsToList, AreOwnPlaces, ByOne, PutsIn};
 
 use crate::makers::{EventPlace, EventPlaces, places_under};
 use epc_core::Epc;
@@ -106,7 +105,7 @@ fn push_filled_by(
 }
 
 /// The item that an event puts others into.
-fn filled(body: &Body) -> Option<&Epc>
+pub(crate) fn filled(body: &Body) -> Option<&Epc>
     ensures { option_map (λ i. i.now) result ≡ filled body.now }
 {
     match body {
@@ -126,7 +125,7 @@ pub fn carriers_of(
     containers: &Containers<'_>,
     item: &Epc,
 ) -> Result<Sequence<Pair>, AllocError>
-    requires { AreOwnPlaces PutIn containers.now.site.now.events containers.now.number
+    requires { AreOwnPlaces PutsIn containers.now.site.now.events containers.now.number
         containers.now.packings.now }
     ensures { IfOk result (λ carriers. (p : Pair) → Contains carriers p
         ↔ ((p.site ≡ containers.now.site.now.me)

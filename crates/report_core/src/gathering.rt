@@ -3,8 +3,7 @@
 ghost use Rattle.std.specs.Prelude.{◌≡◌, OnOk};
 ghost use Rattle.report_core.specs.Gathering.{Adds, BodyTells, Goes, ItemTells, OneTells, PlaceTells};
 ghost use Rattle.report_core.specs.Gathering.{RecordTells, SiteTells};
-ghost use Rattle.report_core.specs.Sources.{AreOwnPlaces, AreSitePlaces};
-ghost use Rattle.report_core.specs.declared.makers.Noting.TheVariants.{PutIn, Sent};
+ghost use Rattle.report_core.specs.Sources.{AreOwnPlaces, AreSitePlaces, PutsIn, ShipsItself};
 
 use crate::containers::{Containers, carriers_of};
 use crate::destinations::Destination;
@@ -47,8 +46,8 @@ pub(crate) fn add_of_events(
         return Ok(());
     }
     let captured = state.captured();
-    let packings = places_of(alloc, &[captured], Noting::PutIn)?;
-    let shipments = places_of(alloc, &[captured], Noting::Sent)?;
+    let packings = places_of(alloc, &[captured], Noting::PutIn, None)?;
+    let shipments = places_of(alloc, &[captured], Noting::Sent, None)?;
     let containers = Containers {
         site: captured,
         number: 0,
@@ -73,9 +72,9 @@ fn add_of_items(
     items: &BTreeSet<Epc>,
     found: &mut BTreeSet<OutsideShipment>,
 ) -> Result<(), AllocError>
-    requires packings { AreOwnPlaces PutIn containers.now.site.now.events containers.now.number
+    requires packings { AreOwnPlaces PutsIn containers.now.site.now.events containers.now.number
         containers.now.packings.now }
-    requires shipments { AreSitePlaces Sent containers.now.site.now containers.now.number
+    requires shipments { AreSitePlaces ShipsItself containers.now.site.now containers.now.number
         shipments.now }
     ensures { OnOk result (Adds found.old found.new
         (OneTells items.now.keys (ItemTells containers.now.site.now.events site))) }
@@ -95,9 +94,9 @@ fn add_of_item(
     item: &Epc,
     found: &mut BTreeSet<OutsideShipment>,
 ) -> Result<(), AllocError>
-    requires packings { AreOwnPlaces PutIn containers.now.site.now.events containers.now.number
+    requires packings { AreOwnPlaces PutsIn containers.now.site.now.events containers.now.number
         containers.now.packings.now }
-    requires shipments { AreSitePlaces Sent containers.now.site.now containers.now.number
+    requires shipments { AreSitePlaces ShipsItself containers.now.site.now containers.now.number
         shipments.now }
     ensures { OnOk result (Adds found.old found.new
         (ItemTells containers.now.site.now.events site item.now)) }

@@ -25,6 +25,7 @@ mod traces;
 mod tracing;
 mod tracing_back;
 mod trail_events;
+mod wanted_steps;
 mod with_events;
 
 pub use audits::{Verdict, audit};

@@ -1,17 +1,16 @@
 //! Under which items events are noted: in which transformations each was made or taken in, and by which shipments it
 //! left.
-ghost use Rattle.std.specs.Prelude.{◌≡◌, ◌++◌, ◌∷◌, [], ℕ, List, IfOk, OnOk};
+ghost use Rattle.std.specs.Prelude.{◌≡◌, ◌↔◌, ◌++◌, ◌∷◌, [], ℕ, List, Contains, IfOk, IsTrue, OnOk};
 ghost use Rattle.site_core.specs.ItemSets.{item_cmp};
 ghost use Rattle.std.specs.BTreeMap.{get};
 ghost use Rattle.trace_core.specs.Chains.{sites_at};
-ghost use Rattle.trace_core.specs.Pairs.{GivesOut, TakesIn};
-ghost use Rattle.report_core.specs.Sources.{AddsTo, AreMakers, ArePlaces, ByOne, Keeps, Notes};
-ghost use Rattle.report_core.specs.Sources.{PutsIn, ShipsItself, SiteNotes, or_no_places, put_in};
+ghost use Rattle.report_core.specs.Sources.{AddsTo, AreMakers, ArePlaces, ByOne, IsWanted, Keeps, Notes};
+ghost use Rattle.report_core.specs.Sources.{NotesOf, SiteNotes, or_no_places};
 
 use epc_core::Epc;
 use event_json::{Action, Body};
 use std::alloc::{AllocError, Global};
-use std::collections::BTreeMap;
+use std::collections::{BTreeMap, BTreeSet};
 use std::marker::Model;
 use trace_core::Captured;
 
@@ -95,20 +94,23 @@ pub fn makers_of(
 ) -> Result<BTreeMap<Epc, EventPlaces>, AllocError>
     ensures { IfOk result (λ index. AreMakers index (sites_at sites.now)) }
 {
-    places_of(alloc, sites, Noting::GivenOut)
+    places_of(alloc, sites, Noting::GivenOut, None)
 }
 
-/// For each item the places of the events that are noted under it. Goes over the events of all sites once.
+/// For each of the items that are wanted the places of the events that are noted under it; for each item where none are
+/// named. Goes over the events of all sites once, and keeps nothing of other items.
 pub fn places_of(
     alloc: Global,
     sites: &[&Captured],
     noting: Noting,
+    wanted: Option<&BTreeSet<Epc>>,
 ) -> Result<BTreeMap<Epc, EventPlaces>, AllocError>
-    ensures { IfOk result (λ index. ArePlaces noting index (sites_at sites.now)) }
+    ensures { IfOk result (λ index. ArePlaces (NotesOf wanted.entry noting) index
+        (sites_at sites.now)) }
 {
     let mut index = BTreeMap::new(alloc);
     for number in 0..sites.len() {
-        note_site(alloc, sites[number], number, noting, &mut index)?;
+        note_site(alloc, sites[number], number, noting, wanted, &mut index)?;
     }
     Ok(index)
 }
@@ -119,10 +121,11 @@ fn note_site(
     site: &Captured,
     number: usize,
     noting: Noting,
+    wanted: Option<&BTreeSet<Epc>>,
     index: &mut BTreeMap<Epc, EventPlaces>,
 ) -> Result<(), AllocError>
     ensures { OnOk result (AddsTo (Keeps index.old) (Keeps index.new)
-        (SiteNotes noting site.now number)) }
+        (SiteNotes (NotesOf wanted.entry noting) site.now number)) }
 {
     for place in 0..site.len() {
         if let Some(event) = site.event(place) {
@@ -130,7 +133,7 @@ fn note_site(
                 site: number,
                 event: place,
             };
-            note_body(alloc, event.body(), place, noting, index)?;
+            note_body(alloc, event.body(), place, noting, wanted, index)?;
         }
     }
     Ok(())
@@ -142,108 +145,78 @@ fn note_body(
     body: &Body,
     place: EventPlace,
     noting: Noting,
+    wanted: Option<&BTreeSet<Epc>>,
     index: &mut BTreeMap<Epc, EventPlaces>,
 ) -> Result<(), AllocError>
     ensures { OnOk result (AddsTo (Keeps index.old) (Keeps index.new)
-        (λ m. Notes noting m.0 body.now × (place ≡ m.1))) }
+        (λ m. NotesOf wanted.entry noting m.0 body.now × (place ≡ m.1))) }
 {
-    match noting {
-        Noting::TakenIn => note_taken(alloc, body, place, index),
-        Noting::GivenOut => note_given(alloc, body, place, index),
-        Noting::Sent => note_sent(alloc, body, place, index),
-        Noting::PutIn => note_put(alloc, body, place, index),
-    }
+    note_items(alloc, noted_items(noting, body), place, wanted, index)
 }
 
-/// Notes an event's place under each of its inputs.
-fn note_taken(
-    alloc: Global,
-    body: &Body,
-    place: EventPlace,
-    index: &mut BTreeMap<Epc, EventPlaces>,
-) -> Result<(), AllocError>
-    ensures { OnOk result (AddsTo (Keeps index.old) (Keeps index.new)
-        (λ m. TakesIn m.0 body.now × (place ≡ m.1))) }
+/// The items under which an event is noted.
+fn noted_items(noting: Noting, body: &Body) -> &[Epc]
+    ensures { (item : List ℕ) → Contains result.now item ↔ Notes noting item body.now }
 {
-    match body {
-        Body::Make { ins, .. } => note_items(alloc, ins.as_slice(), place, index),
-        Body::Note { .. } | Body::Ship { .. } | Body::Pack { .. } => Ok(()),
-    }
-}
-
-/// Notes an event's place under each of its outputs.
-fn note_given(
-    alloc: Global,
-    body: &Body,
-    place: EventPlace,
-    index: &mut BTreeMap<Epc, EventPlaces>,
-) -> Result<(), AllocError>
-    ensures { OnOk result (AddsTo (Keeps index.old) (Keeps index.new)
-        (λ m. GivesOut m.0 body.now × (place ≡ m.1))) }
-{
-    match body {
-        Body::Make { outs, .. } => note_items(alloc, outs.as_slice(), place, index),
-        Body::Note { .. } | Body::Ship { .. } | Body::Pack { .. } => Ok(()),
-    }
-}
-
-/// Notes a shipment's place under each of its items.
-fn note_sent(
-    alloc: Global,
-    body: &Body,
-    place: EventPlace,
-    index: &mut BTreeMap<Epc, EventPlaces>,
-) -> Result<(), AllocError>
-    ensures { OnOk result (AddsTo (Keeps index.old) (Keeps index.new)
-        (λ m. ShipsItself m.0 body.now × (place ≡ m.1))) }
-{
-    match body {
-        Body::Ship { items, .. } => note_items(alloc, items.as_slice(), place, index),
-        Body::Note { .. } | Body::Make { .. } | Body::Pack { .. } => Ok(()),
-    }
-}
-
-/// Notes a packing's place under each item that it puts into something.
-fn note_put(
-    alloc: Global,
-    body: &Body,
-    place: EventPlace,
-    index: &mut BTreeMap<Epc, EventPlaces>,
-) -> Result<(), AllocError>
-    ensures { OnOk result (AddsTo (Keeps index.old) (Keeps index.new)
-        (λ m. PutsIn m.0 body.now × (place ≡ m.1))) }
-{
-    note_items(alloc, put_in(body), place, index)
-}
-
-/// The items that an event puts into something.
-fn put_in(body: &Body) -> &[Epc]
-    ensures { result.now ≡ put_in body.now }
-{
-    match body {
-        Body::Pack {
-            action: Action::Add,
-            parent: Some(_),
-            children,
-        } => children.as_slice(),
+    match (noting, body) {
+        (Noting::TakenIn, Body::Make { ins, .. }) => ins.as_slice(),
+        (Noting::GivenOut, Body::Make { outs, .. }) => outs.as_slice(),
+        (Noting::Sent, Body::Ship { items, .. }) => items.as_slice(),
+        (
+            Noting::PutIn,
+            Body::Pack {
+                action: Action::Add,
+                parent: Some(_),
+                children,
+            },
+        ) => children.as_slice(),
         _ => &[],
     }
 }
 
-/// Notes a place under each of some items.
+/// Notes a place under each of some items that is wanted.
 fn note_items(
     alloc: Global,
     items: &[Epc],
     place: EventPlace,
+    wanted: Option<&BTreeSet<Epc>>,
     index: &mut BTreeMap<Epc, EventPlaces>,
 ) -> Result<(), AllocError>
     ensures { OnOk result (AddsTo (Keeps index.old) (Keeps index.new)
-        (ByOne items.now (λ i m. (i ≡ m.0) × (place ≡ m.1)))) }
+        (ByOne items.now (λ i m. IsWanted wanted.entry i × (i ≡ m.0) × (place ≡ m.1)))) }
 {
     for item in items {
-        note(alloc, item, place, index)?;
+        note_wanted(alloc, item, place, wanted, index)?;
     }
     Ok(())
+}
+
+/// Notes a place under an item, if it is wanted.
+fn note_wanted(
+    alloc: Global,
+    item: &Epc,
+    place: EventPlace,
+    wanted: Option<&BTreeSet<Epc>>,
+    index: &mut BTreeMap<Epc, EventPlaces>,
+) -> Result<(), AllocError>
+    ensures { OnOk result (AddsTo (Keeps index.old) (Keeps index.new)
+        (λ m. IsWanted wanted.entry item.now × (item.now ≡ m.0) × (place ≡ m.1))) }
+{
+    if is_wanted(wanted, item) {
+        note(alloc, item, place, index)
+    } else {
+        Ok(())
+    }
+}
+
+/// Whether an item is wanted: any one where none are named.
+fn is_wanted(wanted: Option<&BTreeSet<Epc>>, item: &Epc) -> bool
+    ensures { IsTrue result ↔ IsWanted wanted.entry item.now }
+{
+    match wanted {
+        Some(items) => items.contains(item),
+        None => true,
+    }
 }
 
 /// Notes a place under an item.

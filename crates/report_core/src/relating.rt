@@ -1,16 +1,19 @@
 //! The captured events that relate two pairs.
-ghost use Rattle.std.specs.Prelude.{◌≡◌, Some, IfOk, option_map, slice_get};
+ghost use Rattle.std.specs.Prelude.{◌≡◌, ℕ, List, Some, IfOk, IsTrue, option_map, slice_get};
 ghost use Rattle.trace_core.specs.Chains.{sites_at};
+ghost use Rattle.trace_core.specs.Pairs.{IsCarriedWith};
+ghost use Rattle.trace_core.specs.Searches.{IsFound};
+ghost use Rattle.site_core.specs.ItemSets.{item_cmp};
 ghost use Rattle.report_core.specs.TrailEvents.{AnswersStep};
-ghost use Rattle.report_core.specs.FirstPlaces.{AnswersMake, AnswersShipment, AreShipments, TellsEvent};
-ghost use Rattle.report_core.specs.Sources.{AreOwnPlaces};
-ghost use Rattle.report_core.specs.declared.makers.Noting.TheVariants.{PutIn, Sent};
+ghost use Rattle.report_core.specs.FirstPlaces.{AnswersMake, AnswersShipment, AreShipments, IsWantedStep, StayWanted, TellsEvent};
+ghost use Rattle.report_core.specs.Sources.{AreItemPlaces, AreOwnPlaces, ArePlaces, PutsIn, ShipsItself};
 
 use crate::containers::{Containers, carriers_of};
 use crate::event_times::time_of;
 use crate::first_places::{GoesTo, JoinedWith, OfOne, first_where, firsts_of};
 use crate::makers::{EventPlace, EventPlaces, Noting, places_of, places_under};
 use crate::trail_events::{CapturedEvent, StepEvents};
+use crate::wanted_steps::{WantedSteps, with_containers};
 use epc_core::Epc;
 use event_json::PlainText;
 use std::alloc::{AllocError, Global};
@@ -18,10 +21,12 @@ use std::collections::BTreeMap;
 use std::marker::Model;
 use trace_core::{Captured, Pair};
 
-/// What several sites captured, and which of it takes each item in, gives it out, ships it and puts it into something.
+/// What several sites captured, and which of it takes the items of some steps in, gives them out, and ships them or what
+/// they lay in.
 #[derive(Drop)]
 pub(crate) struct RelatingEvents<'a> {
     sites: &'a [&'a Captured],
+    wanted: WantedSteps,
     taken: BTreeMap<Epc, EventPlaces>,
     given: BTreeMap<Epc, EventPlaces>,
     sent: BTreeMap<Epc, EventPlaces>,
@@ -29,30 +34,37 @@ pub(crate) struct RelatingEvents<'a> {
 }
 
 impl<'a> Model for RelatingEvents<'a> {
-    ghost use Rattle.std.specs.Prelude.{List};
     ghost use Rattle.trace_core.specs.Chains.{sites_at};
-    ghost use Rattle.trace_core.specs.Sites.{SiteEvents};
-    ghost use Rattle.report_core.specs.FirstPlaces.{AreRelatingPlaces};
+    ghost use Rattle.report_core.specs.FirstPlaces.{AreRelatingPlaces, Relating};
 
-    ghost Value = { List SiteEvents };
+    ghost Value = { Relating };
 
-    ghost view = { λ s. sites_at s.sites.now };
+    ghost view = { λ s. record { sites = sites_at s.sites.now; wanted = s.wanted } };
 
-    ghost invariant = { λ s. AreRelatingPlaces (sites_at s.sites.now) s.taken s.given s.sent
+    ghost invariant = { λ s. AreRelatingPlaces (sites_at s.sites.now) s.wanted s.taken s.given s.sent
         s.packings };
 }
 
 impl<'a> RelatingEvents<'a> {
-    /// Of several sites. Goes over their events four times.
-    pub fn of(alloc: Global, sites: &'a [&'a Captured]) -> Result<RelatingEvents<'a>, AllocError>
-        ensures { IfOk result (λ events. events ≡ sites_at sites.now) }
+    /// Of several sites, for some steps. Goes over their events three times, and twice more where one of the steps may
+    /// be a shipment. Keeps places of what takes the steps' items in, gives them out and ships them alone, and then
+    /// also of the shipments of all that something was put into, and of all packings.
+    pub fn of(
+        alloc: Global,
+        sites: &'a [&'a Captured],
+        wanted: WantedSteps,
+    ) -> Result<RelatingEvents<'a>, AllocError>
+        ensures sites { IfOk result (λ events. events.sites ≡ sites_at sites.now) }
+        ensures wanted { IfOk result (λ events. StayWanted wanted events.wanted) }
     {
-        let taken = places_of(alloc, sites, Noting::TakenIn)?;
-        let given = places_of(alloc, sites, Noting::GivenOut)?;
-        let sent = places_of(alloc, sites, Noting::Sent)?;
-        let packings = places_of(alloc, sites, Noting::PutIn)?;
+        let wanted = with_containers(alloc, sites, wanted)?;
+        let taken = places_of(alloc, sites, Noting::TakenIn, Some(&wanted.items))?;
+        let given = places_of(alloc, sites, Noting::GivenOut, Some(&wanted.items))?;
+        let sent = places_of(alloc, sites, Noting::Sent, Some(&wanted.items))?;
+        let packings = packings_if(alloc, sites, wanted.ships)?;
         Ok(RelatingEvents {
             sites,
+            wanted,
             taken,
             given,
             sent,
@@ -60,9 +72,9 @@ impl<'a> RelatingEvents<'a> {
         })
     }
 
-    /// The first events that relate a pair to another one, by the site of the first pair, where one does. The sites
-    /// stand in the order of their numbers. Looks at the events that take the one item in and at those that give the
-    /// other one out; or at what the item lay in, and at the shipments of that.
+    /// The first events that relate the two pairs of one of the steps, by the site of the first pair, where one does.
+    /// The sites stand in the order of their numbers. Looks at the events that take the one item in and at those that
+    /// give the other one out; or at what the item lay in, and at the shipments of that.
     ///
     /// # Errors
     /// Out of memory.
@@ -72,7 +84,8 @@ impl<'a> RelatingEvents<'a> {
         from: &Pair,
         to: &Pair,
     ) -> Result<Option<StepEvents>, AllocError>
-        ensures { IfOk result (AnswersStep self.now from.now to.now) }
+        requires { IsWantedStep self.now.wanted from.now to.now }
+        ensures { IfOk result (AnswersStep self.now.sites from.now to.now) }
     {
         let number = from.site.number() as usize;
         if number >= self.sites.len() {
@@ -97,7 +110,9 @@ impl<'a> RelatingEvents<'a> {
         item: &Epc,
         made: &Epc,
     ) -> Result<Option<StepEvents>, AllocError>
-        requires { slice_get self.now number ≡ Some site.now }
+        requires site { slice_get self.now.sites number ≡ Some site.now }
+        requires item { IsFound item_cmp self.now.wanted.items item.now }
+        requires made { IsFound item_cmp self.now.wanted.items made.now }
         ensures { IfOk result (AnswersMake site.now.events item.now made.now) }
     {
         let taken = places_under(&self.taken, item);
@@ -139,7 +154,9 @@ impl<'a> RelatingEvents<'a> {
         number: usize,
         to: &Pair,
     ) -> Result<Option<StepEvents>, AllocError>
-        requires { slice_get self.now number ≡ Some site.now }
+        requires site { slice_get self.now.sites number ≡ Some site.now }
+        requires ships { IsTrue self.now.wanted.ships }
+        requires item { IsFound item_cmp self.now.wanted.items to.now.item }
         ensures { IfOk result (AnswersShipment site.now.events to.now.item to.now.site) }
     {
         let test = GoesTo {
@@ -163,6 +180,21 @@ impl<'a> RelatingEvents<'a> {
     }
 }
 
+/// For each item the places of the packings that put it into something, if they are wanted; else none.
+fn packings_if(
+    alloc: Global,
+    sites: &[&Captured],
+    wanted: bool,
+) -> Result<BTreeMap<Epc, EventPlaces>, AllocError>
+    ensures { IfOk result (λ index. IsTrue wanted → ArePlaces PutsIn index (sites_at sites.now)) }
+{
+    if wanted {
+        places_of(alloc, sites, Noting::PutIn, None)
+    } else {
+        Ok(BTreeMap::new(alloc))
+    }
+}
+
 /// The places of the shipments of an item, or of what it lay in.
 fn shipments_of(
     alloc: Global,
@@ -170,9 +202,10 @@ fn shipments_of(
     sent: &BTreeMap<Epc, EventPlaces>,
     item: &Epc,
 ) -> Result<Vec<EventPlace>, AllocError>
-    requires packings { AreOwnPlaces PutIn containers.now.site.now.events containers.now.number
+    requires packings { AreOwnPlaces PutsIn containers.now.site.now.events containers.now.number
         containers.now.packings.now }
-    requires sent { AreOwnPlaces Sent containers.now.site.now.events containers.now.number sent.now }
+    requires sent { (i : List ℕ) → IsCarriedWith containers.now.site.now.events i item.now
+        → AreItemPlaces ShipsItself containers.now.site.now.events containers.now.number sent.now i }
     ensures { IfOk result (λ places. AreShipments containers.now.site.now.events
         containers.now.number item.now places.items) }
 {

@@ -2,6 +2,7 @@
 ghost use Rattle.std.specs.Prelude.{All, IfOk, OnOk, if◌then◌else◌};
 ghost use Rattle.std.specs.List.{AllZip};
 ghost use Rattle.trace_core.specs.Relations.{IsChain};
+ghost use Rattle.report_core.specs.FirstPlaces.{AreWanted, AreWantedAlong, IsWantedStep};
 ghost use Rattle.report_core.specs.TrailEvents.{AddsTold, AreToldAlong, IsRelatedStep, TellsStep, steps_of};
 ghost use Rattle.report_core.specs.declared.trail_events.ShownSteps.TheVariants.{Each};
 
@@ -60,8 +61,10 @@ pub(crate) fn told_along<T: ShownTrails>(
     trails: &T,
     brief: bool,
 ) -> Result<Vec<Sequence<StepEvents>>, AllocError>
-    requires { All (IsChain (IsRelatedStep relating.now)) (T.trails trails.now) }
-    ensures { IfOk result (λ told. AreToldAlong relating.now
+    requires related { All (IsChain (IsRelatedStep relating.now.sites)) (T.trails trails.now) }
+    requires wanted { AreWantedAlong relating.now.wanted
+        (if brief then T.step trails.now else Each) (T.trails trails.now) }
+    ensures { IfOk result (λ told. AreToldAlong relating.now.sites
         (if brief then T.step trails.now else Each) (T.trails trails.now) told.items) }
 {
     let mut told = Vec::new(alloc);
@@ -78,8 +81,9 @@ fn told_of(
     relating: &RelatingEvents<'_>,
     pairs: &[Pair],
 ) -> Result<Sequence<StepEvents>, AllocError>
-    requires { IsChain (IsRelatedStep relating.now) pairs.now }
-    ensures { IfOk result (AllZip (λ step. TellsStep relating.now step.0 step.1)
+    requires related { IsChain (IsRelatedStep relating.now.sites) pairs.now }
+    requires wanted { AreWanted relating.now.wanted pairs.now }
+    ensures { IfOk result (AllZip (λ step. TellsStep relating.now.sites step.0 step.1)
         (steps_of pairs.now)) }
 {
     let mut told = Vec::new(alloc);
@@ -97,8 +101,10 @@ fn push_told(
     to: &Pair,
     told: &mut Vec<StepEvents>,
 ) -> Result<(), AllocError>
-    requires { IsRelatedStep relating.now from.now to.now }
-    ensures { OnOk result (AddsTold relating.now from.now to.now told.old.items told.new.items) }
+    requires related { IsRelatedStep relating.now.sites from.now to.now }
+    requires wanted { IsWantedStep relating.now.wanted from.now to.now }
+    ensures { OnOk result (AddsTold relating.now.sites from.now to.now told.old.items
+        told.new.items) }
 {
     match relating.of_step(alloc, from, to)? {
         Some(events) => {

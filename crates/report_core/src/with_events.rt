@@ -17,6 +17,7 @@ use crate::traces::{BackTrace, Trace};
 use crate::tracing::trace;
 use crate::tracing_back::trace_back;
 use crate::trail_events::{StepEvents, told_along};
+use crate::wanted_steps::wanted_along;
 use epc_core::Epc;
 use event_json::{Sequence, SiteNo};
 use frame_core::RecallId;
@@ -27,8 +28,11 @@ use std::alloc::{AllocError, Global};
 /// Reports a recall as `report` does, and tells along each trail the first captured events that relate the pairs of
 /// each of its steps, or in brief of its last step alone. Of a pair without a trail no events are told.
 ///
-/// Goes over the events of all sites four times, and looks for each step that is told at the events that take its first
-/// item in and at those that give its second one out, or at what the item lay in and at the shipments of that.
+/// Goes over the events of all sites three times, and twice more where a step that is told may be a shipment. Keeps the
+/// places of what takes the items of these steps in, gives them out and ships them alone; and for shipments also those of
+/// all packings, and of what ships anything that something was put into. Looks for each step that is told at the events
+/// that take its first item in and at those that give its second one out, or at what the item lay in and at the shipments
+/// of that.
 ///
 /// # Errors
 /// As `report`.
@@ -121,6 +125,7 @@ fn events_along<T: ShownTrails>(
         (if brief then T.step trails.now else Each) (T.trails trails.now) told.items) }
 {
     let captured = captured(alloc, sites)?;
-    let relating = RelatingEvents::of(alloc, captured.as_slice())?;
+    let wanted = wanted_along(alloc, trails, brief)?;
+    let relating = RelatingEvents::of(alloc, captured.as_slice(), wanted)?;
     told_along(alloc, &relating, trails, brief)
 }

@@ -2,7 +2,7 @@ use Rattle.std.proofs.Common.{ap}
 use Rattle.std.proofs.lemmas.Result.{on_ok_weaker}
 use Rattle.trace_core.specs.Sites.{SiteEvents}
 use Rattle.report_core.specs.Gathering.{ItemTells, OneTells, SiteTells}
-use Rattle.report_core.specs.declared.makers.Noting.TheVariants.{PutIn, Sent}
+use Rattle.report_core.specs.Sources.{PutsIn, ShipsItself}
 use Rattle.report_core.proofs.Adding.{added_alike, none_added}
 use Rattle.report_core.proofs.Outgoing.{items_told, nothing_told}
 use Rattle.report_core.proofs.PlacesKept.{of_one_site, site_own}
@@ -14,10 +14,10 @@ returns-then-is_empty c =
 
 pub add_of_items-requires-clause-packings : goal.add_of_items-requires-clause-packings
 add_of_items-requires-clause-packings c =
-    site_own PutIn c.captured-captured.result.now 0 c.in_ok-packings.packings (of_one_site PutIn c.captured-captured.result.now c.in_ok-packings.packings c.in_ok-packings.ensures)
+    site_own PutsIn c.captured-captured.result.now 0 c.in_ok-packings.packings (of_one_site PutsIn c.captured-captured.result.now c.in_ok-packings.packings c.in_ok-packings.ensures)
 
 pub add_of_items-requires-clause-shipments : goal.add_of_items-requires-clause-shipments
-add_of_items-requires-clause-shipments c = of_one_site Sent c.captured-captured.result.now c.in_ok-shipments.shipments c.in_ok-shipments.ensures
+add_of_items-requires-clause-shipments c = of_one_site ShipsItself c.captured-captured.result.now c.in_ok-shipments.shipments c.in_ok-shipments.ensures
 
 pub returns : goal.returns
 returns c =

@@ -1,13 +1,8 @@
+use Rattle.std.proofs.lemmas.Result.{on_ok_weaker}
+use Rattle.report_core.proofs.PlacesKept.{body_noted}
 use Rattle.report_core.proofs.makers.note_body.Goals as goal
 
-pub returns-in-TakenIn : goal.returns-in-TakenIn
-returns-in-TakenIn c = rw c.in-TakenIn.is c.note_taken.ensures
-
-pub returns-in-GivenOut : goal.returns-in-GivenOut
-returns-in-GivenOut c = rw c.in-GivenOut.is c.note_given.ensures
-
-pub returns-in-Sent : goal.returns-in-Sent
-returns-in-Sent c = rw c.in-Sent.is c.note_sent.ensures
-
-pub returns-in-PutIn : goal.returns-in-PutIn
-returns-in-PutIn c = rw c.in-PutIn.is c.note_put.ensures
+pub returns : goal.returns
+returns c = on_ok_weaker c.note_items.result
+    (body_noted c.args.noting c.args.body.now c.noted_items.result.now c.noted_items.ensures c.args.place c.args.index.now c.note_items.new.index c.args.wanted)
+    c.note_items.ensures

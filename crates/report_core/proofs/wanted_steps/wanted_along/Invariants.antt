@@ -1,0 +1,8 @@
+use Rattle.std.proofs.Common.{if◌then◌else◌, take}
+use Rattle.report_core.specs.FirstPlaces.{AreWantedAlong}
+use Rattle.report_core.specs.declared.trail_events.ShownSteps.TheVariants.{Each}
+use Rattle.report_core.proofs.wanted_steps.wanted_along.Given as goal
+
+-- the steps of the trails so far
+abbrev pub invariant-loop-place : goal.invariant-loop-place
+invariant-loop-place g l = AreWantedAlong l.wanted (if l.brief then g.T.ShownTrails.step l.trails else Each) (take l.place (g.T.ShownTrails.trails l.trails))
