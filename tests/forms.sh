@@ -171,6 +171,9 @@ def compare(sites, *words):
     rows = ask(*words, "--csv")[0]
     same(f"{words}: CR LF", rows.count(b"\r\n"), len(rows_of(told)))
     same(f"{words}: rows", list(csv.reader(io.StringIO(rows.decode(), newline=""), strict=True)), rows_of(told))
+    guarded = [["'" + it if it[:1] in tuple("=+-@\t\r") else it for it in row] for row in rows_of(told)]
+    rows = ask(*words, "--csv-guarded")[0]
+    same(f"{words}: guarded rows", list(csv.reader(io.StringIO(rows.decode(), newline=""), strict=True)), guarded)
     dot = ask(*words, "--dot")[0]
     same(f"{words}: picture", picture(dot.decode()), pictured(told, sites))
     if shutil.which("dot"):
@@ -208,7 +211,7 @@ with open("list", "w") as file:
 os.mkdir("odd")
 ask("init", "odd", "list")
 ODD = ['a,"b"\\&c', "\\", '"', ",", "&amp;", "\u00e9\\n", "https://id.gs1.org/00/095213211234567896"]
-write("north.json", [made(["x"], ODD), shipped(ODD[:4], "s"), shipped(ODD[3:], PLACE), shipped(["x"], "plain")])
+write("north.json", [made(["x"], ODD), shipped(ODD[:4], "s"), shipped(ODD[3:], PLACE), shipped(["x"], "plain"), shipped(["x"], '=cmd,"|A1"'), shipped(["x"], "-1"), shipped(["x"], "@x")])
 write("south.json", [made([ODD[0]], ["y"]), shipped(["y"], "n")])
 ask("capture", "odd", "north", "north.json")
 ask("capture", "odd", "south_2", "south.json")
@@ -217,7 +220,7 @@ compare(SITES, "report", "odd", "north#1")
 ask("run", "odd")
 told = compare(SITES, "report", "odd", "north#1")
 same("the pairs of the odd recall", len(told["pairs"]), 14)
-same("what left", len(told["outside"]), 5)
+same("what left", len(told["outside"]), 8)
 compare(SITES, "trace", "odd", "north", "x")
 compare(SITES, "trace", "odd", "north", "y", "--back")
 
@@ -233,7 +236,7 @@ compare(DAIRY, "report", "chain", "plant#1")
 compare(DAIRY, "trace", "chain", "plant", TANK)
 compare(DAIRY, "trace", "chain", "plant", TANK, "--back")
 
-for form in ("--csv", "--dot"):
+for form in ("--csv", "--csv-guarded", "--dot"):
     for words, refused in ((("report", "chain", "plant#9"), b"refused UnknownRecall\n"), (("trace", "chain", "plant", "nothing"), b"refused UnknownItem\n")):
         out, err = ask(*words, form, status=1)
         same(f"{words} {form}", out, refused)

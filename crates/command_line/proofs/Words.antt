@@ -1,5 +1,5 @@
 -- what some command lines ask for
-use Rattle.std.proofs.Common.{◌≡◌, ◌↔◌, ℕ, Bool, Bor, true, false, List, [], ◌∷◌, Option, Some, None, Result, Ok, Err, IfOk, IfSome, arith, codes, length, map, get_or, refl, sym, ap, ◌∙◌, subst, ⊎_elim, inl, inr, ◌≢◌}
+use Rattle.std.proofs.Common.{◌≡◌, ◌↔◌, ℕ, Bool, Bor, true, false, List, [], ◌∷◌, Option, Some, None, Result, Ok, Err, IfNone, IfOk, IfSome, arith, codes, length, map, get_or, refl, sym, ap, ◌∙◌, subst, ⊎_elim, inl, inr, ◌≢◌}
 use mathlib.Core.Bool.{false≢true, true≢false}
 use Rattle.std.specs.Prelude.{IsTrue}
 use Rattle.std.specs.Option.{ok_or}
@@ -64,7 +64,10 @@ nothing_set name is = cc
 no_forms : AsksTwoForms [] → ⊥
 no_forms (inl both) = nothing_set (codes "json") both.0
 no_forms (inr (inl both)) = nothing_set (codes "json") both.0
-no_forms (inr (inr both)) = nothing_set (codes "csv") both.0
+no_forms (inr (inr (inl both))) = nothing_set (codes "json") both.0
+no_forms (inr (inr (inr (inl both)))) = nothing_set (codes "csv") both.0
+no_forms (inr (inr (inr (inr (inl both))))) = nothing_set (codes "csv") both.0
+no_forms (inr (inr (inr (inr (inr both))))) = nothing_set (codes "csv-guarded") both.0
 
 nothing_twice : AsksTwo [] → ⊥
 nothing_twice (inl forms) = no_forms forms
@@ -179,6 +182,11 @@ lint_named name rows (Some (asked.Mistake text)) e is = absurd is
 pub found_named : (found : Option (Text × List Row)) (name : Text) (rows : List Row) (result : Option Asked) → found ≡ Some (name, rows) → IfSome result (AsksOf name rows) → IfSome result (AsksNamed found)
 found_named found name rows None e is = tt
 found_named found name rows (Some what) e is = subst (λ (f : Option (Text × List Row)). AsksNamed f what) (sym e) is
+
+-- what holds where there is none
+pub where_none : {X : Type 0} (result : Option X) (A : Type 0) → IfNone result A → ((x : X) → result ≡ Some x → ⊥) → A
+where_none None A holds none = holds
+where_none (Some x) A holds none = absurd (none x refl)
 
 -- where options contradict one another, that is what is wrong
 pub mistake_named : (found : Option (Text × List Row)) (result : Option Asked) → IsContradiction found → IfSome result IsMistake → IfSome result (AsksNamed found)

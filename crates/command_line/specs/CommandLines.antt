@@ -130,7 +130,7 @@ run = with_rule (on_folder (codes "run")) turns
 
 -- a command that can also be asked to print rows, or a picture
 abbrev pub with_forms : App → App
-with_forms a = with_rule (with_rule a (flag (codes "csv"))) (flag (codes "dot"))
+with_forms a = with_rule (with_rule (with_rule a (flag (codes "csv"))) (flag (codes "csv-guarded"))) (flag (codes "dot"))
 
 -- a command that can also be asked to tell less of each trail, or the events behind it
 abbrev pub with_ways : App → App
@@ -226,10 +226,11 @@ IsUnset rows name = IsSet rows name → ⊥
 
 -- what the command comes to is printed in this form, and no other is asked for
 abbrev pub GivesForm : List Row → Form → Type 0
-GivesForm rows forms.Text = IsUnset rows (codes "json") × IsUnset rows (codes "csv") × IsUnset rows (codes "dot")
-GivesForm rows forms.Json = IsSet rows (codes "json") × IsUnset rows (codes "csv") × IsUnset rows (codes "dot")
-GivesForm rows forms.Csv = IsUnset rows (codes "json") × IsSet rows (codes "csv") × IsUnset rows (codes "dot")
-GivesForm rows forms.Dot = IsUnset rows (codes "json") × IsUnset rows (codes "csv") × IsSet rows (codes "dot")
+GivesForm rows forms.Text = IsUnset rows (codes "json") × IsUnset rows (codes "csv") × IsUnset rows (codes "csv-guarded") × IsUnset rows (codes "dot")
+GivesForm rows forms.Json = IsSet rows (codes "json") × IsUnset rows (codes "csv") × IsUnset rows (codes "csv-guarded") × IsUnset rows (codes "dot")
+GivesForm rows forms.Csv = IsUnset rows (codes "json") × IsSet rows (codes "csv") × IsUnset rows (codes "csv-guarded") × IsUnset rows (codes "dot")
+GivesForm rows forms.GuardedCsv = IsUnset rows (codes "json") × IsUnset rows (codes "csv") × IsSet rows (codes "csv-guarded") × IsUnset rows (codes "dot")
+GivesForm rows forms.Dot = IsUnset rows (codes "json") × IsUnset rows (codes "csv") × IsUnset rows (codes "csv-guarded") × IsSet rows (codes "dot")
 
 -- a document has at most so many bytes: those that are given, or 64 MiB where the command isn't asked
 abbrev pub GivesMost : List Row → ℕ → Type 0
@@ -242,7 +243,8 @@ GivesTerms rows terms = GivesForm rows terms.form × GivesNumber rows (codes "wa
 -- two forms are asked for
 abbrev pub AsksTwoForms : List Row → Type 0
 AsksTwoForms rows =
-    (IsSet rows (codes "json") × IsSet rows (codes "csv")) ⊎ (IsSet rows (codes "json") × IsSet rows (codes "dot")) ⊎ (IsSet rows (codes "csv") × IsSet rows (codes "dot"))
+    (IsSet rows (codes "json") × IsSet rows (codes "csv")) ⊎ (IsSet rows (codes "json") × IsSet rows (codes "csv-guarded")) ⊎ (IsSet rows (codes "json") × IsSet rows (codes "dot"))
+    ⊎ (IsSet rows (codes "csv") × IsSet rows (codes "csv-guarded")) ⊎ (IsSet rows (codes "csv") × IsSet rows (codes "dot")) ⊎ (IsSet rows (codes "csv-guarded") × IsSet rows (codes "dot"))
 
 -- the items are spelled in this way, and in no other
 abbrev pub GivesSpelling : List Row → Spelling → Type 0
@@ -256,7 +258,7 @@ AsksTwoSpellings rows = IsSet rows (codes "key") × IsSet rows (codes "scan")
 
 -- events are asked for in a form that tells none
 abbrev pub AsksUntoldEvents : List Row → Type 0
-AsksUntoldEvents rows = IsSet rows (codes "events") × (IsSet rows (codes "csv") ⊎ IsSet rows (codes "dot"))
+AsksUntoldEvents rows = IsSet rows (codes "events") × (IsSet rows (codes "csv") ⊎ IsSet rows (codes "csv-guarded") ⊎ IsSet rows (codes "dot"))
 
 -- options that exclude each other are there
 abbrev pub AsksTwo : List Row → Type 0

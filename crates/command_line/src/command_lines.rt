@@ -330,12 +330,14 @@ fn form_of(given: &ArgMatches<'_>) -> Option<Form>
 {
     let json = is_set(given, "json");
     let csv = is_set(given, "csv");
+    let guarded = is_set(given, "csv-guarded");
     let dot = is_set(given, "dot");
-    match (json, csv, dot) {
-        (false, false, false) => Some(Form::Text),
-        (true, false, false) => Some(Form::Json),
-        (false, true, false) => Some(Form::Csv),
-        (false, false, true) => Some(Form::Dot),
+    match (json, csv, guarded, dot) {
+        (false, false, false, false) => Some(Form::Text),
+        (true, false, false, false) => Some(Form::Json),
+        (false, true, false, false) => Some(Form::Csv),
+        (false, false, true, false) => Some(Form::GuardedCsv),
+        (false, false, false, true) => Some(Form::Dot),
         _ => None,
     }
 }
@@ -344,7 +346,8 @@ fn form_of(given: &ArgMatches<'_>) -> Option<Form>
 fn asks_untold_events(given: &ArgMatches<'_>) -> bool
     ensures { IsTrue result ↔ AsksUntoldEvents (rows_of (found_of given.now)) }
 {
-    is_set(given, "events") && (is_set(given, "csv") || is_set(given, "dot"))
+    is_set(given, "events")
+        && (is_set(given, "csv") || is_set(given, "csv-guarded") || is_set(given, "dot"))
 }
 
 /// The command of a name on the sites' files.

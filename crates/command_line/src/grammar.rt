@@ -145,6 +145,18 @@ fn csv<'a>(alloc: Global) -> Arg<'a>
     )
 }
 
+/// Whether it is printed as rows in which no cell begins as a formula.
+fn csv_guarded<'a>(alloc: Global) -> Arg<'a>
+    ensures rule { rule_of result ≡ flag (codes "csv-guarded") }
+    ensures local { result.global ≡ false }
+{
+    flag(
+        alloc,
+        "csv-guarded",
+        "As --csv, with ' before a cell that a spreadsheet might take for a formula",
+    )
+}
+
 /// Whether it is printed as a picture.
 fn dot<'a>(alloc: Global) -> Arg<'a>
     ensures rule { rule_of result ≡ flag (codes "dot") }
@@ -310,6 +322,7 @@ fn report<'a>(alloc: Global) -> Result<Command<'a>, AllocError>
         .arg(brief(alloc))?
         .arg(events(alloc))?
         .arg(csv(alloc))?
+        .arg(csv_guarded(alloc))?
         .arg(dot(alloc))
 }
 
@@ -329,6 +342,7 @@ fn trace<'a>(alloc: Global) -> Result<Command<'a>, AllocError>
         .arg(brief(alloc))?
         .arg(events(alloc))?
         .arg(csv(alloc))?
+        .arg(csv_guarded(alloc))?
         .arg(dot(alloc))?
         .arg(key(alloc))?
         .arg(scan(alloc))

@@ -11,14 +11,14 @@ pub(crate) const VERSION: &str =
 
 /// What is wrong where two forms are asked for.
 pub(crate) const TWO_FORMS: &str = "\
-error: only one of '--json', '--csv' and '--dot' can be given
+error: only one of '--json', '--csv', '--csv-guarded' and '--dot' can be given
 
 For more information, try '--help'.
 ";
 
 /// What is wrong where events are asked for in a form that tells none.
 pub(crate) const UNTOLD_EVENTS: &str = "\
-error: '--events' is for text and '--json', and not for '--csv' or '--dot'
+error: '--events' is for text and '--json', and not for '--csv', '--csv-guarded' or '--dot'
 
 For more information, try '--help'.
 ";
@@ -178,7 +178,8 @@ step alone, in its own line. With `--events` stand behind each step the events t
 `by <number> <eventID> <time> shipped`, or `made`, which are two where they are two parts of a transformation.
 
 With `--csv` each quarantined item and each shipment that left is a row of a table for a spreadsheet, with
-the step before it; with `--dot` the spread is a picture for Graphviz. A refusal is printed as text.
+the step before it; with `--csv-guarded` a cell that a spreadsheet might take for a formula has an apostrophe
+before it. With `--dot` the spread is a picture for Graphviz. A refusal is printed as text.
 
 Examples:
   recall report chain dairy#1
@@ -214,7 +215,8 @@ that come from nowhere among the traced sites. With `--brief` each has one step,
 recalled, and no file is changed.
 
 With `--csv` it is a table for a spreadsheet, with a row for each item at a site and one for each shipment
-that left or each origin; with `--dot` a picture for Graphviz. A refusal is printed as text.
+that left or each origin, and with `--csv-guarded` the same with an apostrophe before what a spreadsheet might
+take for a formula; with `--dot` a picture for Graphviz. A refusal is printed as text.
 
 With `--key` the item is given as this program prints it, with `--scan` as a scanner gives it.
 

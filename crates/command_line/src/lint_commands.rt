@@ -135,6 +135,9 @@ fn write_lint_totals<W: Write>(
 {
     match form {
         Form::Json => print(output, totals.json(alloc)?.as_str()),
-        Form::Text | Form::Csv | Form::Dot => print(output, totals.text(alloc)?.as_str()),
+        Form::Text | Form::Csv | Form::GuardedCsv | Form::Dot => print(
+            output,
+            totals.text(alloc)?.as_str(),
+        ),
     }
 }

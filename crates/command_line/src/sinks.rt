@@ -67,7 +67,7 @@ fn lint_lines(alloc: Global, form: Form, path: &str, found: &Lint) -> Result<Str
 {
     match form {
         Form::Json => found.json(alloc, path),
-        Form::Text | Form::Csv | Form::Dot => {
+        Form::Text | Form::Csv | Form::GuardedCsv | Form::Dot => {
             let path = shown(alloc, path)?;
             found.text(alloc, path.as_str())
         }

@@ -8,12 +8,12 @@ use Rattle.recall_outcomes.specs.declared.faults.Fault.TheVariants as faults
 use Rattle.recall_outcomes.specs.declared.outcomes.Outcome.{Outcome}
 use Rattle.recall_outcomes.specs.declared.outcomes.Ways.{Ways}
 use Rattle.report_forms.specs.Accounts.{Account}
-use Rattle.report_forms.specs.Csv.{account_rows}
+use Rattle.report_forms.specs.Csv.{account_rows, table_rows}
 use Rattle.report_forms.specs.Dot.{IsPicture}
 use Rattle.outcome_forms.specs.Accounts.{account_of}
 use Rattle.outcome_forms.specs.Json.{json_lines, outcome_json}
 use Rattle.outcome_forms.specs.declared.forms.Form.{Form}
-use Rattle.outcome_forms.specs.declared.forms.Form.TheVariants.{Text, Json, Csv, Dot}
+use Rattle.outcome_forms.specs.declared.forms.Form.TheVariants.{Text, Json, Csv, GuardedCsv, Dot}
 
 -- what was known stays, and some text follows
 abbrev pub AppendsText : Option (List ℕ) → Option (List ℕ) → Type 0
@@ -29,10 +29,10 @@ is_of_writing faults.Write = true
 is_of_writing faults.NoMemory = true
 is_of_writing other = false
 
--- rows that are read back as those of a report or a trace
-abbrev pub AreRowsOf : List Site → Option (Account × Ways) → List ℕ → Type 0
-AreRowsOf sites None text = text ≡ text
-AreRowsOf sites (Some (account, ways)) text = records default_config text ≡ account_rows sites account
+-- rows that are read back as those of a report or a trace, guarded or as they are
+abbrev pub AreRowsOf : Bool → List Site → Option (Account × Ways) → List ℕ → Type 0
+AreRowsOf guard sites None text = text ≡ text
+AreRowsOf guard sites (Some (account, ways)) text = records default_config text ≡ table_rows guard (account_rows sites account)
 
 -- a picture of a report or a trace
 abbrev pub IsPictureOf : Option (Account × Ways) → List ℕ → Type 0
@@ -43,7 +43,8 @@ IsPictureOf (Some told) text = IsPicture text
 abbrev pub Writes : Form → List Site → Outcome → Option (List ℕ) → Option (List ℕ) → Type 0
 Writes Text sites outcome old new = AppendsText old new
 Writes Json sites outcome old new = Appends old new (json_lines (outcome_json sites outcome))
-Writes Csv sites outcome old new = AppendsSuch (AreRowsOf sites (account_of outcome)) old new
+Writes Csv sites outcome old new = AppendsSuch (AreRowsOf false sites (account_of outcome)) old new
+Writes GuardedCsv sites outcome old new = AppendsSuch (AreRowsOf true sites (account_of outcome)) old new
 Writes Dot sites outcome old new = AppendsSuch (IsPictureOf (account_of outcome)) old new
 
 -- These lines are written, where it is JSON, and else some text.

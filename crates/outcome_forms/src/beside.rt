@@ -37,7 +37,10 @@ fn explain<E: Write>(alloc: Global, form: Form, outcome: &Outcome, errors: &mut 
     ensures { AppendsText (E.contents errors.old) (E.contents errors.new) }
 {
     match form {
-        Form::Text | Form::Csv | Form::Dot => say(errors, sentences_of(alloc, outcome)),
+        Form::Text | Form::Csv | Form::GuardedCsv | Form::Dot => say(
+            errors,
+            sentences_of(alloc, outcome),
+        ),
         Form::Json => {}
     }
 }
@@ -73,7 +76,7 @@ fn fault_lines(
     failure: Option<&Failure>,
 ) -> Result<String, AllocError> {
     match form {
-        Form::Text | Form::Csv | Form::Dot => fault_text(alloc, fault, failure),
+        Form::Text | Form::Csv | Form::GuardedCsv | Form::Dot => fault_text(alloc, fault, failure),
         Form::Json => {
             let mut line = fault_json(alloc, fault, failure)?.to_string(alloc)?;
             line.push_str("\n")?;
@@ -98,7 +101,7 @@ fn note<E: Write>(alloc: Global, form: Form, text: Result<String, AllocError>, e
     ensures { AppendsText (E.contents errors.old) (E.contents errors.new) }
 {
     match form {
-        Form::Text | Form::Csv | Form::Dot => say(errors, text),
+        Form::Text | Form::Csv | Form::GuardedCsv | Form::Dot => say(errors, text),
         Form::Json => {
             if let Ok(text) = text {
                 say(errors, note_lines(alloc, text.as_str()));

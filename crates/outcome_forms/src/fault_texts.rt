@@ -48,7 +48,7 @@ pub fn fault_line(fault: Fault) -> &'static str {
 /// The same in this form.
 pub(crate) fn bare_line(form: Form, fault: Fault) -> &'static str {
     match form {
-        Form::Text | Form::Csv | Form::Dot => fault_line(fault),
+        Form::Text | Form::Csv | Form::GuardedCsv | Form::Dot => fault_line(fault),
         Form::Json => json_line(fault),
     }
 }

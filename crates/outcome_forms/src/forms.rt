@@ -9,6 +9,8 @@ pub enum Form {
     Json,
     /// Rows of comma-separated fields, of a report and of a trace; any other outcome as text.
     Csv,
+    /// The same rows, in which a field that a spreadsheet might take for a formula stands behind an apostrophe.
+    GuardedCsv,
     /// A picture for Graphviz, of a report and of a trace; any other outcome as text.
     Dot,
 }

@@ -39,7 +39,8 @@ pub fn write_outcome<W: Write>(
         Some((account, ways)) => match form {
             Form::Text => write_account_text(alloc, sites, ways, &account, output),
             Form::Json => write_account(alloc, sites, ways, &account, output),
-            Form::Csv => print(output, csv_table(alloc, sites, &account)?.as_str()),
+            Form::Csv => print(output, csv_table(alloc, sites, &account, false)?.as_str()),
+            Form::GuardedCsv => print(output, csv_table(alloc, sites, &account, true)?.as_str()),
             Form::Dot => print(output, dot_graph(alloc, sites, &account)?.as_str()),
         },
         None => match form {
@@ -47,7 +48,7 @@ pub fn write_outcome<W: Write>(
                 let values = outcome_values(alloc, sites, outcome)?;
                 print(output, value_lines(alloc, values.as_slice())?.as_str())
             }
-            Form::Text | Form::Csv | Form::Dot => {
+            Form::Text | Form::Csv | Form::GuardedCsv | Form::Dot => {
                 print(output, outcome_text(alloc, sites, outcome)?.as_str())
             }
         },
@@ -78,7 +79,7 @@ pub fn write_input<W: Write>(
             let value = input_json(alloc, task, sites, source, came)?;
             print(output, value_line(alloc, &value)?.as_str())
         }
-        Form::Text | Form::Csv | Form::Dot => {
+        Form::Text | Form::Csv | Form::GuardedCsv | Form::Dot => {
             print(output, input_text(alloc, sites, source, came)?.as_str())
         }
     }
@@ -104,7 +105,10 @@ pub fn write_totals<W: Write>(
             let value = totals_json(alloc, totals)?;
             print(output, value_line(alloc, &value)?.as_str())
         }
-        Form::Text | Form::Csv | Form::Dot => print(output, totals_text(alloc, totals)?.as_str()),
+        Form::Text | Form::Csv | Form::GuardedCsv | Form::Dot => print(
+            output,
+            totals_text(alloc, totals)?.as_str(),
+        ),
     }
 }
 

@@ -1,3 +1,4 @@
+pub mod Guarding
 pub mod Parts
 pub mod Replacing
 pub mod Drawing

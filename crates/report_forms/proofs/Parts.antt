@@ -1,5 +1,5 @@
 -- Parts place by place, and what is written of them so far.
-use Rattle.std.proofs.Common.{◌≡◌, ◌<◌, ◌+◌, ℕ, zero, suc, List, [], ◌∷◌, ◌++◌, Option, None, Some, append-nil, append_assoc, drop, get_or, length, map, slice_get, take, refl, sym, ap, ap₂, ◌∙◌, arith}
+use Rattle.std.proofs.Common.{Bool, ◌≡◌, ◌<◌, ◌+◌, ℕ, zero, suc, List, [], ◌∷◌, ◌++◌, Option, None, Some, append-nil, append_assoc, drop, get_or, length, map, slice_get, take, refl, sym, ap, ap₂, ◌∙◌, arith}
 use Rattle.std.specs.Option.{unwrap_or}
 use Rattle.std.proofs.lemmas.Grind.{flat_map-append}
 use Rattle.std.proofs.lemmas.List.{map-append, take_more}
@@ -8,7 +8,7 @@ use Rattle.report_core.specs.declared.trail_events.StepEvents.{StepEvents}
 use Rattle.trace_core.proofs.NumberLists.{none_is, some_is}
 use Rattle.trace_core.specs.declared.pairs.Pair.{Pair}
 use Rattle.report_forms.specs.Accounts.{Part, parts_of}
-use Rattle.report_forms.specs.Csv.{Fields, csv_line, csv_lines}
+use Rattle.report_forms.specs.Csv.{Fields, cell_line, cell_lines}
 use Rattle.report_forms.specs.declared.accounts.Way.{Way}
 use Rattle.report_forms.specs.declared.accounts.Way.TheVariants.{Unknown}
 
@@ -51,10 +51,10 @@ one_more xs n x at =
     let below = slice_get_within xs n x at in
     take_more xs n x below ∙ ap (λ y. take n xs ++ y ∷ []) (some_is (get_or xs n x) x (sym (slice_get-get_or xs n x below) ∙ at))
 
-pub one_row : {X : Type 0} (row : X → Fields) (xs : List X) (n : ℕ) (x : X) (old text more : List ℕ) → slice_get xs n ≡ Some x
-    → text ≡ old ++ csv_lines (map row (take n xs)) → more ≡ text ++ csv_line (row x) → more ≡ old ++ csv_lines (map row (take (n + 1) xs))
-one_row row xs n x old text more at so_far written =
+pub one_row : {X : Type 0} (g : Bool) (row : X → Fields) (xs : List X) (n : ℕ) (x : X) (old text more : List ℕ) → slice_get xs n ≡ Some x
+    → text ≡ old ++ cell_lines g (map row (take n xs)) → more ≡ text ++ cell_line g (row x) → more ≡ old ++ cell_lines g (map row (take (n + 1) xs))
+one_row g row xs n x old text more at so_far written =
     let rows : map row (take (n + 1) xs) ≡ map row (take n xs) ++ row x ∷ [] = ap (map row) (one_more xs n x at) ∙ map-append row (take n xs) (x ∷ []) in
-    let all : csv_lines (map row (take (n + 1) xs)) ≡ csv_lines (map row (take n xs)) ++ csv_line (row x) =
-    ap csv_lines rows ∙ flat_map-append csv_line (map row (take n xs)) (row x ∷ []) ∙ ap (λ (ys : List ℕ). csv_lines (map row (take n xs)) ++ ys) (append-nil (csv_line (row x))) in
-    written ∙ ap (λ (ys : List ℕ). ys ++ csv_line (row x)) so_far ∙ append_assoc old (csv_lines (map row (take n xs))) (csv_line (row x)) ∙ ap (λ (ys : List ℕ). old ++ ys) (sym all)
+    let all : cell_lines g (map row (take (n + 1) xs)) ≡ cell_lines g (map row (take n xs)) ++ cell_line g (row x) =
+    ap (cell_lines g) rows ∙ flat_map-append (cell_line g) (map row (take n xs)) (row x ∷ []) ∙ ap (λ (ys : List ℕ). cell_lines g (map row (take n xs)) ++ ys) (append-nil (cell_line g (row x))) in
+    written ∙ ap (λ (ys : List ℕ). ys ++ cell_line g (row x)) so_far ∙ append_assoc old (cell_lines g (map row (take n xs))) (cell_line g (row x)) ∙ ap (λ (ys : List ℕ). old ++ ys) (sym all)

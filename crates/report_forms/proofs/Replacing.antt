@@ -32,7 +32,7 @@ replaced_first byte with (b ∷ before) behind lacks =
 
 -- ---- as `csv` doubles quotes
 
-doubled_other : (b : ℕ) (text : List ℕ) → (b == 34) ≡ false → doubled_in default_writer (b ∷ text) ≡ b ∷ doubled_in default_writer text
+pub doubled_other : (b : ℕ) (text : List ℕ) → (b == 34) ≡ false → doubled_in default_writer (b ∷ text) ≡ b ∷ doubled_in default_writer text
 unfolding doubled_in
 doubled_other b text other = rw other refl
 

@@ -1,13 +1,15 @@
 -- what the rows of reports and traces are
-use Rattle.std.proofs.Common.{◌≡◌, ◌∷◌, ◌++◌, List, [], map, refl}
+use Rattle.std.proofs.Common.{◌≡◌, ◌∷◌, ◌++◌, ◌∙◌, ℕ, Bool, List, [], ap, map, refl}
+use Rattle.std.proofs.lemmas.List.{length-map}
 use Rattle.std.specs.Prelude.{All}
-use Rattle.std.proofs.lemmas.List.Elements.{All-append, All-cons, All-nil}
+use Rattle.std.proofs.lemmas.List.Elements.{All-append, All-cons, All-head, All-nil, All-tail}
 use Rattle.csv.specs.Reading.{default_config, records}
 use Rattle.event_json.specs.Sites.{Site}
 use Rattle.report_forms.specs.Accounts.{Account}
-use Rattle.report_forms.specs.Csv.{Fields, account_rows, columns_of, csv_lines, kind_of, origin_row, outside_row, part_row, recall_field}
+use Rattle.report_forms.specs.Csv.{Fields, account_rows, cell, cell_line, cell_lines, cells, columns_of, csv_line, csv_lines, kind_of, origin_row, outside_row, part_row, recall_field, table_rows}
 use Rattle.report_forms.specs.declared.accounts.Title.{Title}
 use Rattle.report_forms.specs.declared.accounts.Title.TheVariants as titles
+use Rattle.report_forms.proofs.Guarding.{rows_are}
 use Rattle.report_forms.proofs.RowLaws.{IsFull, rows_read}
 
 -- rows that are all full
@@ -20,15 +22,30 @@ columns_full (titles.Recall r ended) = refl
 columns_full titles.Forward = refl
 columns_full titles.Back = refl
 
--- A reader finds in the text of the rows just these.
-pub account_read : (sites : List Site) (a : Account) → records default_config (csv_lines (account_rows sites a)) ≡ account_rows sites a
-account_read sites a =
+-- each row of an account has a field for each column
+account_full : (sites : List Site) (a : Account) → All IsFull (account_rows sites a)
+account_full sites a =
     let recall = recall_field sites a.title in
     let parts = map (part_row sites recall (kind_of a.title)) a.parts in
     let outside = map (outside_row sites recall) a.outside in
     let origins = map (origin_row sites recall) a.origins in
-    let full : All IsFull (account_rows sites a) =
     All-cons IsFull (columns_of a.title) (parts ++ (outside ++ origins)) (columns_full a.title)
     (All-append IsFull parts (outside ++ origins) (all_full (part_row sites recall (kind_of a.title)) (λ p. refl) a.parts)
-    (All-append IsFull outside origins (all_full (outside_row sites recall) (λ x. refl) a.outside) (all_full (origin_row sites recall) (λ p. refl) a.origins))) in
-    rows_read (account_rows sites a) full
+    (All-append IsFull outside origins (all_full (outside_row sites recall) (λ x. refl) a.outside) (all_full (origin_row sites recall) (λ p. refl) a.origins)))
+
+-- rows whose cells are guarded have as many
+cells_full : (g : Bool) (rows : List Fields) → All IsFull rows → All IsFull (map (cells g) rows)
+cells_full g [] full = All-nil IsFull
+cells_full g (row ∷ rows) full =
+    All-cons IsFull (cells g row) (map (cells g) rows) (length-map row (cell g) ∙ All-head IsFull row rows full) (cells_full g rows (All-tail IsFull row rows full))
+
+lines_of_cells : (g : Bool) (rows : List Fields) → cell_lines g rows ≡ csv_lines (map (cells g) rows)
+unfolding cell_line
+lines_of_cells g [] = refl
+lines_of_cells g (row ∷ rows) = ap (λ (rest : List ℕ). csv_line (cells g row) ++ rest) (lines_of_cells g rows)
+
+-- A reader finds in the text of the rows just these.
+pub account_read : (g : Bool) (sites : List Site) (a : Account) → records default_config (cell_lines g (account_rows sites a)) ≡ table_rows g (account_rows sites a)
+account_read g sites a =
+    let rows = account_rows sites a in
+    ap (records default_config) (lines_of_cells g rows) ∙ rows_read (map (cells g) rows) (cells_full g rows (account_full sites a)) ∙ rows_are g rows

@@ -1,6 +1,6 @@
 -- A report and a trace as rows of comma-separated fields, as RFC 4180 has them.
-use Rattle.std.specs.Prelude.{ℕ, List, [], ◌∷◌, ◌++◌, Option, Some, None, codes, map}
-use Rattle.std.specs.List.{flat_map}
+use Rattle.std.specs.Prelude.{if◌then◌else◌, ℕ, Bool, false, ◌==◌, ◌&&◌, List, [], ◌∷◌, ◌++◌, Option, Some, None, codes, map}
+use Rattle.std.specs.List.{flat_map, list_any}
 use Rattle.std.specs.Option.{option_and_then, option_map_or, unwrap_or}
 use Rattle.csv.specs.Writing.{default_writer, field_text}
 use Rattle.epc_core.specs.Items.{behind, parted}
@@ -87,6 +87,25 @@ account_rows sites a =
     ∷ map (part_row sites (recall_field sites a.title) (kind_of a.title)) a.parts
     ++ (map (outside_row sites (recall_field sites a.title)) a.outside ++ map (origin_row sites (recall_field sites a.title)) a.origins)
 
+-- ---- texts that a spreadsheet might take for a formula
+
+-- what a formula begins with: `=`, `+`, `-`, `@`, a tab or a CR
+abbrev pub formula_marks : List ℕ
+formula_marks = codes "=+-@" ++ 9 ∷ 13 ∷ []
+
+-- it begins with one of them
+abbrev pub is_formula : List ℕ → Bool
+is_formula [] = false
+is_formula (b ∷ bs) = list_any (λ mark. b == mark) formula_marks
+
+-- such a text stands behind an apostrophe, and any other as it is
+abbrev pub guarded : List ℕ → List ℕ
+guarded text = if is_formula text then 39 ∷ text else text
+
+-- the rows as they are, or with each field guarded
+abbrev pub table_rows : Bool → List Fields → List Fields
+table_rows guard rows = if guard then map (map guarded) rows else rows
+
 -- ---- as text
 
 -- a field, in quotes where it has to be, as the crate `csv` writes it
@@ -105,3 +124,17 @@ csv_line (field ∷ fields) = csv_field field ++ csv_rest fields
 
 abbrev pub csv_lines : List Fields → List ℕ
 csv_lines rows = flat_map csv_line rows
+
+-- a field as it is written: guarded, where it is asked for
+abbrev pub cell : Bool → List ℕ → List ℕ
+cell guard field = if is_formula field && guard then 39 ∷ field else field
+
+abbrev pub cells : Bool → Fields → Fields
+cells guard row = map (cell guard) row
+
+-- a line of fields that are guarded, where it is asked for
+unfoldable pub cell_line : Bool → Fields → List ℕ
+cell_line guard row = csv_line (cells guard row)
+
+abbrev pub cell_lines : Bool → List Fields → List ℕ
+cell_lines guard rows = flat_map (cell_line guard) rows

@@ -1,8 +1,8 @@
 -- What rows and pictures are, in the words of those that read them.
-use Rattle.std.specs.Prelude.{◌≡◌, ◌==◌, ℕ, Bool, true, false, List, [], ◌∷◌, ◌++◌, Option, Some, None, if◌then◌else◌, option_map}
+use Rattle.std.specs.Prelude.{◌≡◌, ◌==◌, ◌⊎◌, ℕ, Bool, true, false, List, [], ◌∷◌, ◌++◌, Option, Some, None, codes, if◌then◌else◌, option_map}
 use Rattle.epc_core.specs.Items.{sgtin_key, sscc_key, uri_key, with_first}
 use Rattle.epc_core.specs.Numbers.{IsChecked}
-use Rattle.report_forms.specs.Csv.{gtin_of, serial_of, sscc_of}
+use Rattle.report_forms.specs.Csv.{gtin_of, guarded, serial_of, sscc_of}
 use Rattle.report_forms.specs.Dot.{dot_text, with_entities}
 
 -- ---- rows
@@ -19,6 +19,18 @@ ItemsHaveNumbers =
     ((gtin serial : List ℕ) → IsChecked 14 gtin → HasNumbers (sgtin_key gtin serial) gtin serial [])
     × ((digits : List ℕ) → HasNumbers (sscc_key digits) [] [] digits)
     × ((text : List ℕ) → HasNumbers (uri_key text) [] [] [])
+
+-- it begins with `=`, `+`, `-`, `@`, a tab or a CR
+abbrev pub BeginsFormula : List ℕ → Type 0
+BeginsFormula [] = ⊥
+BeginsFormula (b ∷ rest) = (b ≡ 61) ⊎ (b ≡ 43) ⊎ (b ≡ 45) ⊎ (b ≡ 64) ⊎ (b ≡ 9) ⊎ (b ≡ 13)
+
+-- No guarded text begins so. One that did stands behind an apostrophe, and any other is as it was.
+abbrev pub FormulasAreGuarded : Type 0
+FormulasAreGuarded =
+    ((text : List ℕ) → BeginsFormula (guarded text) → ⊥)
+    × ((text : List ℕ) → BeginsFormula text → guarded text ≡ codes "'" ++ text)
+    × ((text : List ℕ) → (BeginsFormula text → ⊥) → guarded text ≡ text)
 
 -- ---- pictures
 

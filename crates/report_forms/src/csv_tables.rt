@@ -1,13 +1,13 @@
 //! A report and a trace as rows of comma-separated fields, for a spreadsheet.
 
-ghost use Rattle.std.specs.Prelude.{◌≡◌, ◌++◌, ◌<◌, [], ◌∷◌, IfOk, OnOk, length, map, option_map, string_bytes};
+ghost use Rattle.std.specs.Prelude.{◌≡◌, ◌++◌, ◌<◌, [], ◌∷◌, Bool, IfOk, OnOk, length, map, option_map, string_bytes};
 ghost use Rattle.std.specs.Option.{option_map_or};
 ghost use Rattle.epc_core.specs.Items.{parted};
 ghost use Rattle.std.specs.List.{flat_map, list_any};
 ghost use Rattle.csv.specs.Reading.{default_config, records};
 ghost use Rattle.csv.specs.Writing.{default_writer, escaped, needs_byte, needs_quotes, quoted};
 ghost use Rattle.report_forms.specs.Accounts.{part_of};
-ghost use Rattle.report_forms.specs.Csv.{account_rows, columns_of, csv_field, csv_line, csv_lines, gtin_of, item_beside, kind_of, name_beside, origin_row, outside_row, part_row, recall_field, row_of, serial_of, sscc_of};
+ghost use Rattle.report_forms.specs.Csv.{account_rows, columns_of, cell, cell_line, cell_lines, csv_field, gtin_of, is_formula, item_beside, kind_of, name_beside, origin_row, outside_row, part_row, recall_field, row_of, serial_of, sscc_of, table_rows};
 
 use crate::accounts::{Account, Part, Title};
 use crate::replaced::push_replaced;
@@ -20,31 +20,44 @@ use trace_core::Pair;
 
 /// A report or a trace as rows, in which a reader of RFC 4180 finds just these: a first one of the columns' names, one
 /// for each pair, and one for each shipment out of the traced sites, or for each pair that no pair is related to.
-pub fn csv_table(alloc: Global, sites: &Sites, account: &Account<'_>) -> Result<String, AllocError>
+///
+/// With `guard` a field that a spreadsheet might take for a formula has an apostrophe before it, and any other is as it
+/// was.
+pub fn csv_table(
+    alloc: Global,
+    sites: &Sites,
+    account: &Account<'_>,
+    guard: bool,
+) -> Result<String, AllocError>
     ensures { IfOk result (λ t. records default_config (string_bytes t)
-        ≡ account_rows sites.now account.now) }
+        ≡ table_rows guard (account_rows sites.now account.now)) }
 {
-    table_text(alloc, sites, account)
+    table_text(alloc, sites, account, guard)
 }
 
 /// The text of these rows.
-fn table_text(alloc: Global, sites: &Sites, account: &Account<'_>) -> Result<String, AllocError>
+fn table_text(
+    alloc: Global,
+    sites: &Sites,
+    account: &Account<'_>,
+    guard: bool,
+) -> Result<String, AllocError>
     ensures { IfOk result (λ t. string_bytes t
-        ≡ csv_lines (account_rows sites.now account.now)) }
+        ≡ cell_lines guard (account_rows sites.now account.now)) }
 {
     let recall = recall_field(alloc, sites, account.title())?;
     let recall = recall.as_str();
     let mut text = String::from_str(alloc, columns(account.title()))?;
-    push_parts(alloc, &mut text, sites, recall, account)?;
-    push_outsides(alloc, &mut text, sites, recall, account.outside())?;
-    push_origins(alloc, &mut text, sites, recall, account.origins())?;
+    push_parts(alloc, &mut text, sites, recall, account, guard)?;
+    push_outsides(alloc, &mut text, sites, recall, account.outside(), guard)?;
+    push_origins(alloc, &mut text, sites, recall, account.origins(), guard)?;
     Ok(text)
 }
 
 /// The names of the columns, as a line.
-#[tactic(auto, unfolding(crate::specs::Csv::csv_line, crate::specs::Csv::csv_field))]
+#[tactic(auto, unfolding(crate::specs::Csv::cell_line, crate::specs::Csv::csv_line, crate::specs::Csv::csv_field))]
 fn columns(title: Title) -> &'static str
-    ensures { result.now ≡ csv_line (columns_of title) }
+    ensures { (guard : Bool) → result.now ≡ cell_line guard (columns_of title) }
 {
     match title {
         Title::Recall {
@@ -90,8 +103,9 @@ fn push_parts(
     sites: &Sites,
     recall: &str,
     account: &Account<'_>,
+    guard: bool,
 ) -> Result<(), AllocError>
-    ensures { OnOk result (string_bytes text.new ≡ string_bytes text.old ++ csv_lines
+    ensures { OnOk result (string_bytes text.new ≡ string_bytes text.old ++ cell_lines guard
         (map (part_row sites.now recall.now (kind_of account.now.title)) account.now.parts)) }
 {
     let kind = kind_of(account.title());
@@ -99,7 +113,7 @@ fn push_parts(
         let Some(part) = account.part(place) else {
             unreachable!()
         };
-        push_part(alloc, text, sites, recall, kind, &part)?;
+        push_part(alloc, text, sites, recall, kind, &part, guard)?;
     }
     Ok(())
 }
@@ -112,8 +126,9 @@ fn push_part(
     recall: &str,
     kind: &str,
     part: &Part<'_>,
+    guard: bool,
 ) -> Result<(), AllocError>
-    ensures { OnOk result (string_bytes text.new ≡ string_bytes text.old ++ csv_line
+    ensures { OnOk result (string_bytes text.new ≡ string_bytes text.old ++ cell_line guard
         (part_row sites.now recall.now kind.now (part_of part.now))) }
 {
     let pair = part.pair;
@@ -127,6 +142,7 @@ fn push_part(
         part.way.beside(),
         kind,
         "",
+        guard,
     )
 }
 
@@ -137,8 +153,9 @@ fn push_outsides(
     sites: &Sites,
     recall: &str,
     outside: &[OutsideShipment],
+    guard: bool,
 ) -> Result<(), AllocError>
-    ensures { OnOk result (string_bytes text.new ≡ string_bytes text.old ++ csv_lines
+    ensures { OnOk result (string_bytes text.new ≡ string_bytes text.old ++ cell_lines guard
         (map (outside_row sites.now recall.now) outside.now)) }
 {
     for shipment in outside {
@@ -152,6 +169,7 @@ fn push_outsides(
             None,
             "outside",
             shipment.destination.as_str(),
+            guard,
         )?;
     }
     Ok(())
@@ -164,8 +182,9 @@ fn push_origins(
     sites: &Sites,
     recall: &str,
     origins: &[Pair],
+    guard: bool,
 ) -> Result<(), AllocError>
-    ensures { OnOk result (string_bytes text.new ≡ string_bytes text.old ++ csv_lines
+    ensures { OnOk result (string_bytes text.new ≡ string_bytes text.old ++ cell_lines guard
         (map (origin_row sites.now recall.now) origins.now)) }
 {
     for origin in origins {
@@ -179,6 +198,7 @@ fn push_origins(
             None,
             "origin",
             "",
+            guard,
         )?;
     }
     Ok(())
@@ -195,8 +215,9 @@ fn push_row(
     beside: Option<&Pair>,
     kind: &str,
     destination: &str,
+    guard: bool,
 ) -> Result<(), AllocError>
-    ensures { OnOk result (string_bytes text.new ≡ string_bytes text.old ++ csv_line
+    ensures { OnOk result (string_bytes text.new ≡ string_bytes text.old ++ cell_line guard
         (row_of sites.now recall.now site item.now (option_map (λ p. p.now) beside.entry) kind.now
         destination.now)) }
 {
@@ -211,6 +232,7 @@ fn push_row(
         other.as_str(),
         kind,
         destination,
+        guard,
     )
 }
 
@@ -224,8 +246,9 @@ fn push_fields<'a>(
     other_key: &'a str,
     kind: &'a str,
     destination: &'a str,
+    guard: bool,
 ) -> Result<(), AllocError>
-    ensures { OnOk result (string_bytes text.new ≡ string_bytes text.old ++ csv_line
+    ensures { OnOk result (string_bytes text.new ≡ string_bytes text.old ++ cell_line guard
         (recall.now ∷ site.now ∷ key.now ∷ gtin_of key.now ∷ serial_of key.now ∷ sscc_of key.now
         ∷ other_site.now ∷ other_key.now ∷ kind.now ∷ destination.now ∷ [])) }
 {
@@ -241,19 +264,19 @@ fn push_fields<'a>(
         kind,
         destination,
     ];
-    push_line(text, recall, &rest)
+    push_line(text, recall, &rest, guard)
 }
 
 /// Adds a line of a field and others.
-#[tactic(auto, unfolding(crate::specs::Csv::csv_line))]
-fn push_line(text: &mut String, first: &str, rest: &[&str]) -> Result<(), AllocError>
-    ensures { OnOk result (string_bytes text.new ≡ string_bytes text.old ++ csv_line
+#[tactic(auto, unfolding(crate::specs::Csv::cell_line, crate::specs::Csv::csv_line))]
+fn push_line(text: &mut String, first: &str, rest: &[&str], guard: bool) -> Result<(), AllocError>
+    ensures { OnOk result (string_bytes text.new ≡ string_bytes text.old ++ cell_line guard
         (first.now ∷ map (λ f. f.now) rest.now)) }
 {
-    push_field(text, first)?;
+    push_field(text, first, guard)?;
     for field in rest {
         text.push(',')?;
-        push_field(text, field)?;
+        push_field(text, field, guard)?;
     }
     text.push_str("\r\n")
 }
@@ -311,15 +334,53 @@ fn item_beside(alloc: Global, beside: Option<&Pair>) -> Result<String, AllocErro
     }
 }
 
+/// Adds a field; with `guard` behind an apostrophe, where a spreadsheet might take it for a formula.
+fn push_field(text: &mut String, field: &str, guard: bool) -> Result<(), AllocError>
+    ensures { OnOk result (string_bytes text.new
+        ≡ string_bytes text.old ++ csv_field (cell guard field.now)) }
+{
+    if is_formula(field) && guard {
+        push_guarded(text, field)
+    } else {
+        push_plain(text, field)
+    }
+}
+
+/// Adds a field behind an apostrophe, in quotes where it has a quote, a comma or a line's end.
+#[tactic(auto, unfolding(crate::specs::Csv::csv_field))]
+fn push_guarded(text: &mut String, field: &str) -> Result<(), AllocError>
+    ensures { OnOk result (string_bytes text.new
+        ≡ string_bytes text.old ++ csv_field (39 ∷ field.now)) }
+{
+    if needs_quotes(field) {
+        text.push_str("\"'")?;
+        push_doubled(text, field)?;
+        text.push('"')
+    } else {
+        text.push('\'')?;
+        text.push_str(field)
+    }
+}
+
 /// Adds a field, in quotes where it has a quote, a comma or a line's end.
 #[tactic(auto, unfolding(crate::specs::Csv::csv_field))]
-fn push_field(text: &mut String, field: &str) -> Result<(), AllocError>
+fn push_plain(text: &mut String, field: &str) -> Result<(), AllocError>
     ensures { OnOk result (string_bytes text.new ≡ string_bytes text.old ++ csv_field field.now) }
 {
     if needs_quotes(field) {
         push_quoted(text, field)
     } else {
         text.push_str(field)
+    }
+}
+
+/// Whether a spreadsheet might take a field for a formula.
+fn is_formula(field: &str) -> bool
+    ensures { result ≡ is_formula field.now }
+{
+    match field.as_bytes().first() {
+        Some(byte) => matches!(*byte, b'=' | b'+' | b'-' | b'@' | b'\t' | b'\r'),
+        None => false,
     }
 }
 

@@ -10,6 +10,7 @@ returns c =
     let with4 = adds_rule _ _ _ _ _ c.in_ok-arg-4.ensures c.brief.ensures.local with3 c.brief.ensures.rule in
     let with5 = adds_rule _ _ _ _ _ c.in_ok-arg-5.ensures c.events.ensures.local with4 c.events.ensures.rule in
     let with6 = adds_rule _ _ _ _ _ c.in_ok-arg-6.ensures c.csv.ensures.local with5 c.csv.ensures.rule in
-    let with7 = adds_rule _ _ _ _ _ c.in_ok-arg-7.ensures c.dot.ensures.local with6 c.dot.ensures.rule in
-    let with8 = adds_rule _ _ _ _ _ c.in_ok-arg-8.ensures c.key.ensures.local with7 c.key.ensures.rule in
-    IfOk-weaker c.arg-9.result _ _ (λ command adds. adds_rule _ _ command _ _ adds c.scan.ensures.local with8 c.scan.ensures.rule) c.arg-9.ensures
+    let with7 = adds_rule _ _ _ _ _ c.in_ok-arg-7.ensures c.csv_guarded.ensures.local with6 c.csv_guarded.ensures.rule in
+    let with8 = adds_rule _ _ _ _ _ c.in_ok-arg-8.ensures c.dot.ensures.local with7 c.dot.ensures.rule in
+    let with9 = adds_rule _ _ _ _ _ c.in_ok-arg-9.ensures c.key.ensures.local with8 c.key.ensures.rule in
+    IfOk-weaker c.arg-10.result _ _ (λ command adds. adds_rule _ _ command _ _ adds c.scan.ensures.local with9 c.scan.ensures.rule) c.arg-10.ensures

@@ -9,4 +9,4 @@ loop-origin-preserved c =
     let place = c.loop-origin.origin-index in
     let x = c.origin-item.result in
     let at : slice_get c.args.origins.now place ≡ Some x = slice_get-get_or c.args.origins.now place x (omega (arith, c.loop-origin-test.true)) ∙ ap Some (sym c.origin-item.is) in
-    one_row (origin_row c.args.sites.now c.args.recall.now) c.args.origins.now place x _ _ _ at c.loop-origin.invariant c.in_ok-push_row.ensures
+    one_row c.args.guard (origin_row c.args.sites.now c.args.recall.now) c.args.origins.now place x _ _ _ at c.loop-origin.invariant c.in_ok-push_row.ensures

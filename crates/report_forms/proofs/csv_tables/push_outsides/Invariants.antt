@@ -1,7 +1,7 @@
 use Rattle.std.proofs.Common.{◌≡◌, ◌++◌, map, string_bytes, take}
-use Rattle.report_forms.specs.Csv.{csv_lines, outside_row}
+use Rattle.report_forms.specs.Csv.{cell_lines, outside_row}
 use Rattle.report_forms.proofs.csv_tables.push_outsides.Given as goal
 
 -- the rows so far
 abbrev pub invariant-loop-shipment : goal.invariant-loop-shipment
-invariant-loop-shipment l = string_bytes l.text ≡ string_bytes l.fn.text ++ csv_lines (map (outside_row l.sites l.recall) (take l.shipment-index l.outside))
+invariant-loop-shipment l = string_bytes l.text ≡ string_bytes l.fn.text ++ cell_lines l.guard (map (outside_row l.sites l.recall) (take l.shipment-index l.outside))
