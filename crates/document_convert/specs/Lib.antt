@@ -1,0 +1,3 @@
+pub mod Types
+pub mod Documents
+pub mod Laws

@@ -1,0 +1,49 @@
+//! Laws of a value's document, each named by a function with an empty body whose contract is the law.
+
+ghost use Rattle.document_convert.specs.Laws.{EventsAreKept, HoldersAreDocuments, HoldersAreThese, MembersAreKept, ReadIsUnchanged, SecondChangesNothing, SurroundingsAreKept, TypesAreKept, TypesAreThese, TypesAreTold};
+
+/// The type of a value is its `type`, else its `@type`, else its `isA`.
+pub fn types_are_these()
+    ensures { TypesAreThese }
+{}
+
+/// What holds events, and which.
+pub fn holders_are_these()
+    ensures { HoldersAreThese }
+{}
+
+/// No event is lost, and none is added: a capture finds in the document each event of the value, in order.
+pub fn events_are_kept()
+    ensures { EventsAreKept }
+{}
+
+/// A value that holds no events is no document, and any other is one.
+pub fn holders_are_documents()
+    ensures { HoldersAreDocuments }
+{}
+
+/// An event has each member that it had, but `type`; and that stays, too, where it is there.
+pub fn members_are_kept()
+    ensures members { MembersAreKept }
+    ensures types { TypesAreKept }
+{}
+
+/// The type of an event is what it says of it.
+pub fn types_are_told()
+    ensures { TypesAreTold }
+{}
+
+/// What stands in a document beside its type and its body stays.
+pub fn surroundings_are_kept()
+    ensures { SurroundingsAreKept }
+{}
+
+/// What a capture reads stays as it is.
+pub fn read_is_unchanged()
+    ensures { ReadIsUnchanged }
+{}
+
+/// What comes of a value is the document of itself.
+pub fn second_changes_nothing()
+    ensures { SecondChangesNothing }
+{}
