@@ -1,3 +1,4 @@
+pub mod Cuts
 pub mod Lists
 pub mod Members
 pub mod Settled
@@ -6,3 +7,9 @@ pub mod Bare
 pub mod EventLaws
 pub mod ReadLaws
 pub mod HeldLaws
+pub mod LotLemmas
+pub mod Without
+pub mod Moved
+pub mod LotSpellings
+pub mod MovedLaws
+pub mod NoLots

@@ -65,13 +65,13 @@ all_have sites n (item d ds) found is = by (event_of sites d) refl (λ es. all_h
 
 -- ---- the list that is read
 
-record ReadList (sites : List Site) (d : Data) : Type 0 where
-  items : Items
-  list : event_list d ≡ Ok items
-  found : List (Option Content)
-  read : each (numbered_event sites) 1 items ≡ Ok found
+pub record ReadList (sites : List Site) (d : Data) : Type 0 where
+  pub items : Items
+  pub list : event_list d ≡ Ok items
+  pub found : List (Option Content)
+  pub read : each (numbered_event sites) 1 items ≡ Ok found
 
-read_list : (sites : List Site) (d : Data) (doc : Doc) → document_of sites d ≡ Ok doc → ReadList sites d
+pub read_list : (sites : List Site) (d : Data) (doc : Doc) → document_of sites d ≡ Ok doc → ReadList sites d
 unfolding document_of events_of
 read_list sites d doc is = by (event_list d) refl
   where
@@ -98,7 +98,7 @@ alone_stays d text type named =
     let same : typed d ≡ d = ap (λ (o : Option (List ℕ)). typed_as o d) (told_there d text type) in
     rw (not_settled d text type its, no_list d text told its, event) (ap Some same)
 
-same_Ok : (a b : Items) → ◌≡◌ {A = Result Items DocFault} (Ok a) (Ok b) → a ≡ b
+pub same_Ok : (a b : Items) → ◌≡◌ {A = Result Items DocFault} (Ok a) (Ok b) → a ≡ b
 same_Ok a b e = cc
 
 stays_as_read : (sites : List Site) (d : Data) → ReadList sites d → document_in d ≡ Some d

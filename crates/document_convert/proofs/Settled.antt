@@ -24,7 +24,7 @@ pub record Settled (d : Data) : Type 0 where
   pub list : listed d ≡ Some items
   pub all : are_typed (Some items) ≡ true
 
-both_hold : (a b : Bool) → (a && b) ≡ true → (a ≡ true) × (b ≡ true)
+pub both_hold : (a b : Bool) → (a && b) ≡ true → (a ≡ true) × (b ≡ true)
 both_hold true true is = (refl, refl)
 both_hold true false is = cc
 both_hold false b is = cc

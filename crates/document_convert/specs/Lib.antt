@@ -1,3 +1,6 @@
 pub mod Types
 pub mod Documents
 pub mod Laws
+pub mod Lots
+pub mod Quantities
+pub mod LotLaws

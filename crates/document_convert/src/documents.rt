@@ -63,7 +63,11 @@ fn body_of(alloc: Global, events: Vec<Value>) -> Result<Value, AllocError>
 }
 
 /// A document of these events, with all that stands beside the body of a value.
-fn document_around(alloc: Global, value: Value, events: Vec<Value>) -> Result<Value, AllocError>
+pub(crate) fn document_around(
+    alloc: Global,
+    value: Value,
+    events: Vec<Value>,
+) -> Result<Value, AllocError>
     ensures { IfOk result (λ v. view v ≡ document_around (view value) (map view events.items)) }
 {
     let body = body_of(alloc, events)?;

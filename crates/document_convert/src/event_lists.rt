@@ -70,7 +70,7 @@ pub(crate) fn document_events(value: &Value) -> Option<&[Value]>
 
 /// The event list of an EPCISDocument, where a capture looks for it.
 #[tactic(auto, unfolding(event_json::specs::Documents::listed))]
-fn listed(value: &Value) -> Option<&[Value]>
+pub(crate) fn listed(value: &Value) -> Option<&[Value]>
     ensures { option_map (λ l. items_view l.now) result ≡ listed (view value.now) }
 {
     let body = member_named(value, "epcisBody")?;

@@ -1,5 +1,6 @@
 //! Laws of a value's document, each named by a function with an empty body whose contract is the law.
 
+ghost use Rattle.document_convert.specs.LotLaws.{LotsAreMoved, LotsStayApart, ReadHasNoLots, SpelledAreLots, SpellingsBecomeOne};
 ghost use Rattle.document_convert.specs.Laws.{EventsAreKept, HoldersAreDocuments, HoldersAreThese, MembersAreKept, ReadIsUnchanged, SecondChangesNothing, SurroundingsAreKept, TypesAreKept, TypesAreThese, TypesAreTold};
 
 /// The type of a value is its `type`, else its `@type`, else its `isA`.
@@ -46,4 +47,21 @@ pub fn read_is_unchanged()
 /// What comes of a value is the document of itself.
 pub fn second_changes_nothing()
     ensures { SecondChangesNothing }
+{}
+
+/// Two spellings of one lot become one item, and two lots never one.
+pub fn lots_have_one_spelling()
+    ensures one { SpellingsBecomeOne }
+    ensures lots { SpelledAreLots }
+    ensures apart { LotsStayApart }
+{}
+
+/// The lots of a list of quantities stand behind the items of a list, which all stay, and nothing else changes.
+pub fn lots_are_moved()
+    ensures { LotsAreMoved }
+{}
+
+/// A document that a capture reads has no quantities, and stays as it is.
+pub fn read_has_no_lots()
+    ensures { ReadHasNoLots }
 {}

@@ -5,6 +5,10 @@
 mod documents;
 mod event_lists;
 pub mod laws;
+mod lots;
+mod quantities;
 mod types;
 
 pub use documents::{document_in, documents_in};
+pub use lots::lot_of;
+pub use quantities::{document_with_lots, with_its_lots};
