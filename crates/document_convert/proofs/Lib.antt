@@ -13,3 +13,4 @@ pub mod Moved
 pub mod LotSpellings
 pub mod MovedLaws
 pub mod NoLots
+pub mod NamedLaws

@@ -18,8 +18,10 @@ use Rattle.event_json.specs.Faults.{◌>>=◌}
 use Rattle.event_json.specs.Members.{count_of, each, member_named, member_of}
 use Rattle.event_json.specs.Sites.{Site}
 use Rattle.event_json.specs.Untraced.{in_order, is_text}
-use Rattle.document_convert.specs.Quantities.{document_with_lots, has_by, has_elements, has_quantities, is_filled, lots_of, moved, moved_by, with_its_lots, with_lots}
-use Rattle.document_convert.specs.LotLaws.{ReadHasNoLots}
+use Rattle.document_convert.specs.Quantities.{has_by, has_elements, has_quantities, is_filled, lots_of, moved, moved_by, with_its_lots, with_lots}
+use Rattle.document_convert.specs.LotLaws.{ReadStaysWithLots, WithoutStays}
+use Rattle.document_convert.specs.Lotted.{document_with_lots, has_lots}
+use Rattle.document_convert.specs.Respelled.{spells_otherwise, with_spelled_lots}
 use Rattle.document_convert.proofs.ReadLaws.{ReadList, read_list, same_Ok}
 use Rattle.document_convert.proofs.Settled.{is_document}
 
@@ -247,23 +249,37 @@ its_list d items is named = of_type (type_text d) refl named
     of_type None s n = cc
     of_type (Some text) s n = of_list text (listed d) s n refl
 
-or_not : (a b : Bool) → (a || b) ≡ false → a ≡ false
-or_not true b is = is
-or_not false b is = refl
+-- what no event spells otherwise, and has no quantities, has no lots
+none_of_both : (events : List Data) → list_any has_quantities events ≡ false → list_any spells_otherwise events ≡ false → list_any has_lots events ≡ false
+none_of_both [] a b = refl
+none_of_both (e ∷ es) a b =
+    let first = both_none (has_quantities e) (list_any has_quantities es) a in
+    let second = both_none (spells_otherwise e) (list_any spells_otherwise es) b in
+    rw (first.0, second.0) (none_of_both es first.1 second.1)
 
-read_stays : (sites : List Site) (d : Data) → ReadList sites d → document_with_lots d ≡ d
+pub without_lots_stays : WithoutStays
+unfolding with_spelled_lots
+without_lots_stays d none =
+    let parts = both_none (has_quantities d) (spells_otherwise d) none in
+    let same = without_stays d parts.0 in
+    rw (same, parts.1) refl
+
+read_stays : (sites : List Site) (d : Data) (r : ReadList sites d) → list_any spells_otherwise (in_order r.items) ≡ false → document_with_lots d ≡ d
 unfolding document_with_lots
-read_stays sites d r = by (is_text is_document (type_text d)) refl
+read_stays sites d r other = by (is_text is_document (type_text d)) refl
   where
-    none : list_any has_quantities (in_order r.items) ≡ false
-    none = list_none sites 1 r.items r.found r.read
+    none : list_any has_lots (in_order r.items) ≡ false
+    none = none_of_both (in_order r.items) (list_none sites 1 r.items r.found r.read) other
 
     by : (b : Bool) → is_text is_document (type_text d) ≡ b → document_with_lots d ≡ d
     by true named = rw (named, its_list d r.items r.list named, none) refl
-    by false other =
-        let same = alone_list d r.items r.list other in
-        let first : list_any has_quantities (d ∷ []) ≡ false = ap (λ i. list_any has_quantities (in_order i)) (sym same) ∙ none in
-        rw other (without_stays d (or_not (has_quantities d) false first))
+    by false alone =
+        let same = alone_list d r.items r.list alone in
+        let first : list_any has_lots (d ∷ []) ≡ false = ap (λ i. list_any has_lots (in_order i)) (sym same) ∙ none in
+        rw alone (without_lots_stays d (both_none (has_lots d) false first).0)
 
-pub read_has_no_lots : ReadHasNoLots
-read_has_no_lots sites d doc is = read_stays sites d (read_list sites d doc is)
+pub read_stays_with_lots : ReadStaysWithLots
+read_stays_with_lots sites d doc events is list other =
+    let r = read_list sites d doc is in
+    let same : events ≡ r.items = same_Ok _ _ (sym list ∙ r.list) in
+    read_stays sites d r (ap (λ i. list_any spells_otherwise (in_order i)) (sym same) ∙ other)

@@ -4,3 +4,5 @@ pub mod Laws
 pub mod Lots
 pub mod Quantities
 pub mod LotLaws
+pub mod Respelled
+pub mod Lotted

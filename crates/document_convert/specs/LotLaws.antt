@@ -1,16 +1,21 @@
 -- What becomes of lots, in the words of the one who recalls one.
-use Rattle.std.specs.Prelude.{◌≡◌, ℕ, List, [], Some, Ok}
+use Rattle.std.specs.Prelude.{◌≡◌, ◌⊎◌, false, codes, ℕ, List, [], None, Some, Ok}
+use Rattle.std.specs.List.{list_any}
+use Rattle.event_json.specs.Checks.{type_text}
+use Rattle.event_json.specs.Untraced.{in_order}
 use Rattle.serde_json.specs.Data.{Data, Items}
 use Rattle.serde_json.specs.Find.{get}
 use Rattle.epc_core.specs.Items.{key_of}
 use Rattle.epc_core.specs.Numbers.{IsChecked}
 use Rattle.epc_core.specs.Serials.{IsSerial}
-use Rattle.event_json.specs.Documents.{document_of}
+use Rattle.event_json.specs.Documents.{document_of, event_list}
 use Rattle.event_json.specs.Members.{member_named}
 use Rattle.event_json.specs.Sites.{Site}
 use Rattle.event_json.specs.declared.documents.Doc.{Doc}
 use Rattle.document_convert.specs.Lots.{SpellsLot, lot_of, lot_text}
-use Rattle.document_convert.specs.Quantities.{and_texts, document_with_lots, list_of, lots_of, moved}
+use Rattle.document_convert.specs.Quantities.{and_texts, list_of, lots_of, moved, with_its_lots}
+use Rattle.document_convert.specs.Respelled.{spells_otherwise}
+use Rattle.document_convert.specs.Lotted.{document_with_lots, has_lots, lotted}
 
 -- ---- the spelling of a lot
 
@@ -45,6 +50,32 @@ pub record IsMoved (quantities items : List ℕ) (d found : Data) : Type 0 where
 abbrev pub LotsAreMoved : Type 0
 LotsAreMoved = (quantities items : List ℕ) (d found : Data) → (quantities ≡ items → ⊥) → moved quantities items d ≡ Some found → IsMoved quantities items d found
 
--- A document that a capture reads has no quantities, and stays as it is.
-abbrev pub ReadHasNoLots : Type 0
-ReadHasNoLots = (sites : List Site) (d : Data) (doc : Doc) → document_of sites d ≡ Ok doc → document_with_lots d ≡ d
+-- where an event is left as it is: an element of its quantities has no lot, or a list is none
+abbrev pub IsStuck : List ℕ → List ℕ → Data → Type 0
+IsStuck quantities items d = (lots_of (member_named quantities d) ≡ None) ⊎ (list_of (member_named items d) ≡ None)
+
+-- the lots of an event with one list of quantities
+abbrev pub IsFilled : List ℕ → List ℕ → Data → Type 0
+IsFilled quantities items d = IsMoved quantities items d (with_its_lots d) ⊎ (IsStuck quantities items d × (with_its_lots d ≡ d))
+
+-- the lots of an event with two
+abbrev pub AreFilled : List ℕ → List ℕ → List ℕ → List ℕ → Data → Type 0
+AreFilled quantities items others behind d =
+    ((half : Data) × IsMoved quantities items d half × IsMoved others behind half (with_its_lots d))
+    ⊎ ((IsStuck quantities items d ⊎ ((half : Data) × IsMoved quantities items d half × IsStuck others behind half)) × (with_its_lots d ≡ d))
+
+-- Each lot of an event's quantities stands in the list of the same role.
+pub record LotsAreNamed : Type 0 where
+  pub objects : (d : Data) → type_text d ≡ Some (codes "ObjectEvent") → IsFilled (codes "quantityList") (codes "epcList") d
+  pub aggregations : (d : Data) → type_text d ≡ Some (codes "AggregationEvent") → IsFilled (codes "childQuantityList") (codes "childEPCs") d
+  pub transformations : (d : Data) → type_text d ≡ Some (codes "TransformationEvent")
+      → AreFilled (codes "inputQuantityList") (codes "inputEPCList") (codes "outputQuantityList") (codes "outputEPCList") d
+
+-- an event does not change that has no quantities, and names no lot otherwise than by its one spelling
+abbrev pub WithoutStays : Type 0
+WithoutStays = (d : Data) → has_lots d ≡ false → lotted d ≡ d
+
+-- A document that a capture reads has no quantities: it stays as it is where no event of it spells a lot otherwise.
+abbrev pub ReadStaysWithLots : Type 0
+ReadStaysWithLots = (sites : List Site) (d : Data) (doc : Doc) (events : Items) → document_of sites d ≡ Ok doc → event_list d ≡ Ok events
+    → list_any spells_otherwise (in_order events) ≡ false → document_with_lots d ≡ d

@@ -1,16 +1,13 @@
 -- The lists of quantities of an event: each element is an amount of a class of goods, here of a lot (GS1 EPCIS 2.0, section 7.3: event
 -- types, and the quantity element).
 use Rattle.std.specs.Prelude.{ℕ, Bool, true, false, ◌||◌, if◌then◌else◌, List, [], ◌∷◌, ◌++◌, codes, bytes_eq, map, Option, Some, None, option_and_then, option_map, unwrap_or}
-use Rattle.std.specs.List.{list_any}
 use Rattle.serde_json.specs.Data.{Data, null, boolean, number, string, array, object, Items, no_items, item, Members, no_members, member}
 use Rattle.serde_json.specs.Find.{as_array, as_str}
 use Rattle.serde_json.specs.View.{items_of}
 use Rattle.event_json.specs.Checks.{type_text}
-use Rattle.event_json.specs.Documents.{listed}
 use Rattle.event_json.specs.Members.{member_named}
 use Rattle.event_json.specs.Untraced.{in_order, is_text}
 use Rattle.document_convert.specs.Types.{with_member}
-use Rattle.document_convert.specs.Documents.{document_around}
 use Rattle.document_convert.specs.Lots.{lot_of}
 
 -- ---- the lots of a list of quantities
@@ -76,7 +73,7 @@ moved_by d type =
 unfoldable pub with_its_lots : Data → Data
 with_its_lots d = unwrap_or (option_and_then (moved_by d) (type_text d)) d
 
--- ---- a document
+-- ---- whether an event has quantities
 
 -- an array with elements
 abbrev pub is_filled : Option Items → Bool
@@ -98,10 +95,3 @@ has_by d type =
 
 abbrev pub has_quantities : Data → Bool
 has_quantities d = is_text (has_by d) (type_text d)
-
--- a document with the lots of its events among their items; one whose events have no quantities stays as it is
-unfoldable pub document_with_lots : Data → Data
-document_with_lots d = if is_text (λ text. bytes_eq text (codes "EPCISDocument")) (type_text d) then of_list (listed d) else with_its_lots d where
-  of_list : Option Items → Data
-  of_list None = d
-  of_list (Some items) = if list_any has_quantities (in_order items) then document_around d (map with_its_lots (in_order items)) else d

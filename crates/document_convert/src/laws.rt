@@ -1,6 +1,6 @@
 //! Laws of a value's document, each named by a function with an empty body whose contract is the law.
 
-ghost use Rattle.document_convert.specs.LotLaws.{LotsAreMoved, LotsStayApart, ReadHasNoLots, SpelledAreLots, SpellingsBecomeOne};
+ghost use Rattle.document_convert.specs.LotLaws.{LotsAreMoved, LotsAreNamed, LotsStayApart, ReadStaysWithLots, SpelledAreLots, SpellingsBecomeOne, WithoutStays};
 ghost use Rattle.document_convert.specs.Laws.{EventsAreKept, HoldersAreDocuments, HoldersAreThese, MembersAreKept, ReadIsUnchanged, SecondChangesNothing, SurroundingsAreKept, TypesAreKept, TypesAreThese, TypesAreTold};
 
 /// The type of a value is its `type`, else its `@type`, else its `isA`.
@@ -61,7 +61,13 @@ pub fn lots_are_moved()
     ensures { LotsAreMoved }
 {}
 
-/// A document that a capture reads has no quantities, and stays as it is.
-pub fn read_has_no_lots()
-    ensures { ReadHasNoLots }
+/// Each lot of an event's quantities stands in the list of the same role, or the event stays as it is.
+pub fn lots_are_named()
+    ensures { LotsAreNamed }
+{}
+
+/// A document that a capture reads has no quantities, and stays as it is where no event of it spells a lot otherwise.
+pub fn read_stays_with_lots()
+    ensures events { WithoutStays }
+    ensures documents { ReadStaysWithLots }
 {}

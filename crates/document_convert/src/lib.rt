@@ -6,9 +6,11 @@ mod documents;
 mod event_lists;
 pub mod laws;
 mod lots;
+mod lotted;
 mod quantities;
+mod respelling;
 mod types;
 
 pub use documents::{document_in, documents_in};
 pub use lots::lot_of;
-pub use quantities::{document_with_lots, with_its_lots};
+pub use lotted::document_with_lots;

@@ -1,17 +1,12 @@
 //! The lots of an event's lists of quantities, among its items.
 
-ghost use Rattle.std.specs.Prelude.{◌≡◌, Some, ◌++◌, ◌<◌, IfOk, OnOk, bytes_eq, codes, length, map, option_and_then, option_map, string_bytes};
-ghost use Rattle.std.specs.List.{list_any};
+ghost use Rattle.std.specs.Prelude.{◌≡◌, Some, ◌++◌, ◌<◌, IfOk, OnOk, codes, length, map, option_and_then, option_map, string_bytes};
 ghost use Rattle.serde_json.specs.Data.{array, string};
 ghost use Rattle.serde_json.specs.Find.{as_str};
 ghost use Rattle.serde_json.specs.View.{items_view, view};
-ghost use Rattle.event_json.specs.Checks.{type_text};
 ghost use Rattle.event_json.specs.Members.{member_named};
-ghost use Rattle.event_json.specs.Untraced.{in_order, is_text};
-ghost use Rattle.document_convert.specs.Quantities.{and_texts, document_with_lots, has_by, has_elements, has_quantities, is_filled, list_of, lot_in, lots_in, lots_of, moved, moved_by, with_its_lots, with_lots, without_member};
+ghost use Rattle.document_convert.specs.Quantities.{and_texts, has_by, has_elements, has_quantities, is_filled, list_of, lot_in, lots_in, lots_of, moved, moved_by, with_its_lots, with_lots, without_member};
 
-use crate::documents::document_around;
-use crate::event_lists::listed;
 use crate::lots::lot_of;
 use crate::types::{member_named, type_text, with_member};
 use serde_json::Value;
@@ -220,7 +215,7 @@ fn moved_by(alloc: Global, event: &Value, kind: &str) -> Result<Option<Value>, A
 /// # Errors
 /// Where memory runs out.
 #[tactic(auto, unfolding(crate::specs::Quantities::with_its_lots))]
-pub fn with_its_lots(alloc: Global, event: Value) -> Result<Value, AllocError>
+pub(crate) fn with_its_lots(alloc: Global, event: Value) -> Result<Value, AllocError>
     ensures { IfOk result (λ found. view found ≡ with_its_lots (view event)) }
 {
     let Some(kind) = type_text(&event) else {
@@ -268,69 +263,11 @@ fn has_by(event: &Value, kind: &str) -> bool
 }
 
 /// Whether an event has quantities.
-fn has_quantities(event: &Value) -> bool
+pub(crate) fn has_quantities(event: &Value) -> bool
     ensures { result ≡ has_quantities (view event.now) }
 {
     match type_text(event) {
         Some(kind) => has_by(event, kind),
         None => false,
     }
-}
-
-/// Whether an event of a list has quantities.
-fn have_quantities(list: &[Value]) -> bool
-    ensures { result ≡ list_any has_quantities (in_order (items_view list.now)) }
-{
-    for event in list.iter() {
-        if has_quantities(event) {
-            return true;
-        }
-    }
-    false
-}
-
-/// The events of a list with their lots.
-fn events_with_lots(alloc: Global, list: &[Value]) -> Result<Vec<Value>, AllocError>
-    ensures { IfOk result
-        (λ events. map view events.items ≡ map with_its_lots (in_order (items_view list.now))) }
-{
-    let mut events = Vec::new(alloc);
-    for value in list.iter() {
-        events.push(with_its_lots(alloc, value.clone()?)?)?;
-    }
-    Ok(events)
-}
-
-/// Whether a value is an EPCISDocument by its member `type`.
-fn is_document(value: &Value) -> bool
-    ensures { result ≡ is_text (λ text. bytes_eq text (codes "EPCISDocument"))
-        (type_text (view value.now)) }
-{
-    match type_text(value) {
-        Some(text) => text == "EPCISDocument",
-        None => false,
-    }
-}
-
-/// A document, as [`document_in`](crate::document_in) finds it, with the lots of its events among their items: each is
-/// as [`with_its_lots`] has it. A document whose events have no quantities stays as it is, and in any other all stays
-/// that stands beside its body.
-///
-/// # Errors
-/// Where memory runs out.
-#[tactic(auto, unfolding(crate::specs::Quantities::document_with_lots))]
-pub fn document_with_lots(alloc: Global, document: Value) -> Result<Value, AllocError>
-    ensures { IfOk result (λ found. view found ≡ document_with_lots (view document)) }
-{
-    if !is_document(&document) {
-        return with_its_lots(alloc, document);
-    }
-    let Some(list) = listed(&document) else {
-        return Ok(document);
-    };
-    if !have_quantities(list) {
-        return Ok(document);
-    }
-    let events = events_with_lots(alloc, list)?;
-    document_around(alloc, document, events)
 }

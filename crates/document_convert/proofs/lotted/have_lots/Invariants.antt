@@ -2,10 +2,10 @@ use Rattle.std.proofs.Common.{◌≡◌, drop}
 use Rattle.std.specs.List.{list_any}
 use Rattle.serde_json.specs.View.{items_view}
 use Rattle.event_json.specs.Untraced.{in_order}
-use Rattle.document_convert.specs.Quantities.{has_quantities}
-use Rattle.document_convert.proofs.quantities.have_quantities.Given as goal
+use Rattle.document_convert.specs.Lotted.{has_lots}
+use Rattle.document_convert.proofs.lotted.have_lots.Given as goal
 
 -- one has, where one of the rest has
 abbrev pub invariant-loop-event : goal.invariant-loop-event
 invariant-loop-event l =
-    list_any has_quantities (in_order (items_view (drop l.event-index l.list))) ≡ list_any has_quantities (in_order (items_view l.list))
+    list_any has_lots (in_order (items_view (drop l.event-index l.list))) ≡ list_any has_lots (in_order (items_view l.list))
