@@ -14,3 +14,4 @@ pub mod LotSpellings
 pub mod MovedLaws
 pub mod NoLots
 pub mod NamedLaws
+pub mod RespelledLaws

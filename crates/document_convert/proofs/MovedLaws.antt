@@ -35,7 +35,7 @@ others_without q name (array ds) other = refl
 others_without q name (object ms) other = others_there q name ms other
 
 -- what has a member is an object, where a member is set
-set_there : (name q : List ℕ) (x d found : Data) → member_named q d ≡ Some found → get name (with_member name x d) ≡ Some x
+pub set_there : (name q : List ℕ) (x d found : Data) → member_named q d ≡ Some found → get name (with_member name x d) ≡ Some x
 set_there name q x null found is = cc
 set_there name q x (boolean b) found is = cc
 set_there name q x (number n) found is = cc

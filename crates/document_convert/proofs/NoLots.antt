@@ -44,7 +44,7 @@ none_moved quantities items d none = of_member (member_named quantities d) refl 
     of_member None m none = inl refl
     of_member (Some v) m none = of_array v (as_array v) m refl none
 
-both_none : (a b : Bool) → (a || b) ≡ false → (a ≡ false) × (b ≡ false)
+pub both_none : (a b : Bool) → (a || b) ≡ false → (a ≡ false) × (b ≡ false)
 both_none true b is = cc
 both_none false b is = (refl, is)
 

@@ -1,10 +1,11 @@
 -- What becomes of lots, in the words of the one who recalls one.
-use Rattle.std.specs.Prelude.{◌≡◌, ◌⊎◌, false, codes, ℕ, List, [], None, Some, Ok}
+use Rattle.std.specs.Prelude.{◌≡◌, ◌⊎◌, ℕ, false, codes, List, [], map, None, Some, Ok}
 use Rattle.std.specs.List.{list_any}
 use Rattle.event_json.specs.Checks.{type_text}
 use Rattle.event_json.specs.Untraced.{in_order}
-use Rattle.serde_json.specs.Data.{Data, Items}
+use Rattle.serde_json.specs.Data.{Data, Items, array, string}
 use Rattle.serde_json.specs.Find.{get}
+use Rattle.serde_json.specs.View.{items_of}
 use Rattle.epc_core.specs.Items.{key_of}
 use Rattle.epc_core.specs.Numbers.{IsChecked}
 use Rattle.epc_core.specs.Serials.{IsSerial}
@@ -14,7 +15,7 @@ use Rattle.event_json.specs.Sites.{Site}
 use Rattle.event_json.specs.declared.documents.Doc.{Doc}
 use Rattle.document_convert.specs.Lots.{SpellsLot, lot_of, lot_text}
 use Rattle.document_convert.specs.Quantities.{and_texts, list_of, lots_of, moved, with_its_lots}
-use Rattle.document_convert.specs.Respelled.{spells_otherwise}
+use Rattle.document_convert.specs.Respelled.{respelled_item, spells_otherwise, with_spelled_lots}
 use Rattle.document_convert.specs.Lotted.{document_with_lots, has_lots, lotted}
 
 -- ---- the spelling of a lot
@@ -70,6 +71,28 @@ pub record LotsAreNamed : Type 0 where
   pub aggregations : (d : Data) → type_text d ≡ Some (codes "AggregationEvent") → IsFilled (codes "childQuantityList") (codes "childEPCs") d
   pub transformations : (d : Data) → type_text d ≡ Some (codes "TransformationEvent")
       → AreFilled (codes "inputQuantityList") (codes "inputEPCList") (codes "outputQuantityList") (codes "outputEPCList") d
+
+-- A text in a list of items stays, or becomes the one spelling of the lot that it spells.
+pub record TextsAreRespelled : Type 0 where
+  pub lots : (text gtin number : List ℕ) → SpellsLot text gtin number → respelled_item (string text) ≡ string (lot_text gtin number)
+  pub others : (text : List ℕ) → ((gtin number : List ℕ) → SpellsLot text gtin number → ⊥) → respelled_item (string text) ≡ string text
+
+-- the text, or each item of the array, that is this member is respelled in its place, and no other member changes
+pub record IsRespelled (name : List ℕ) (d found : Data) : Type 0 where
+  pub list : (items : Items) → member_named name d ≡ Some (array items) → member_named name found ≡ Some (array (items_of (map respelled_item (in_order items))))
+  pub text : (text : List ℕ) → member_named name d ≡ Some (string text) → member_named name found ≡ Some (respelled_item (string text))
+  pub others : (other : List ℕ) → (other ≡ name → ⊥) → get other found ≡ get other d
+
+-- of one member after another
+abbrev pub AreRespelled : List ℕ → List ℕ → Data → Data → Type 0
+AreRespelled first second d found = (half : Data) × IsRespelled first d half × IsRespelled second half found
+
+-- Of an event of each type those of its lists of items, and of the parent, and nothing else.
+pub record EventsAreRespelled : Type 0 where
+  pub objects : (d : Data) → type_text d ≡ Some (codes "ObjectEvent") → IsRespelled (codes "epcList") d (with_spelled_lots d)
+  pub aggregations : (d : Data) → type_text d ≡ Some (codes "AggregationEvent") → AreRespelled (codes "parentID") (codes "childEPCs") d (with_spelled_lots d)
+  pub transformations : (d : Data) → type_text d ≡ Some (codes "TransformationEvent")
+      → AreRespelled (codes "inputEPCList") (codes "outputEPCList") d (with_spelled_lots d)
 
 -- an event does not change that has no quantities, and names no lot otherwise than by its one spelling
 abbrev pub WithoutStays : Type 0

@@ -1,6 +1,6 @@
 //! Laws of a value's document, each named by a function with an empty body whose contract is the law.
 
-ghost use Rattle.document_convert.specs.LotLaws.{LotsAreMoved, LotsAreNamed, LotsStayApart, ReadStaysWithLots, SpelledAreLots, SpellingsBecomeOne, WithoutStays};
+ghost use Rattle.document_convert.specs.LotLaws.{EventsAreRespelled, LotsAreMoved, LotsAreNamed, LotsStayApart, ReadStaysWithLots, SpelledAreLots, SpellingsBecomeOne, TextsAreRespelled, WithoutStays};
 ghost use Rattle.document_convert.specs.Laws.{EventsAreKept, HoldersAreDocuments, HoldersAreThese, MembersAreKept, ReadIsUnchanged, SecondChangesNothing, SurroundingsAreKept, TypesAreKept, TypesAreThese, TypesAreTold};
 
 /// The type of a value is its `type`, else its `@type`, else its `isA`.
@@ -64,6 +64,12 @@ pub fn lots_are_moved()
 /// Each lot of an event's quantities stands in the list of the same role, or the event stays as it is.
 pub fn lots_are_named()
     ensures { LotsAreNamed }
+{}
+
+/// A lot that an event names becomes its one spelling, in its place, and all else stays.
+pub fn lots_are_respelled()
+    ensures texts { TextsAreRespelled }
+    ensures events { EventsAreRespelled }
 {}
 
 /// A document that a capture reads has no quantities, and stays as it is where no event of it spells a lot otherwise.
