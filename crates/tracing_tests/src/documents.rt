@@ -1,5 +1,6 @@
 //! Documents and sites with answers that were written by hand.
 
+mod conversions;
 mod faults;
 mod readings;
 mod sites;

@@ -1,0 +1,206 @@
+//! Documents as they are found, and those that are captured of them, by rows.
+
+use document_convert::{document_with_lots, documents_in, lot_of};
+use serde_json::Value;
+use std::alloc::Global;
+use std::test::*;
+
+/// The documents that a text holds, each behind a space; `-` where there is none.
+fn converted(alloc: Global, text: &str) -> Result<String, Fail> {
+    let mut out = String::new(alloc);
+    for document in documents_in(alloc, Value::from_str(alloc, text)?)? {
+        out.push_str(" ")?;
+        match document {
+            Some(value) => out.push_str(value.to_string(alloc)?.as_str())?,
+            None => out.push_str("-")?,
+        }
+    }
+    Ok(out)
+}
+
+/// Whether each text holds the documents beside it.
+fn are_converted(alloc: Global, rows: &[(&str, &str)]) -> Result<bool, Fail> {
+    for (text, want) in rows {
+        if converted(alloc, text)?.as_str() != *want {
+            return Ok(false);
+        }
+    }
+    Ok(true)
+}
+
+#[test]
+fn types(rt: HostRuntime) -> Result<(), Fail> {
+    let rows = [
+        (
+            r#"{"@type":"ObjectEvent","x":1}"#,
+            r#" {"@type":"ObjectEvent","type":"ObjectEvent","x":1}"#,
+        ),
+        (
+            r#"{"@type":["ObjectEvent"]}"#,
+            r#" {"@type":["ObjectEvent"],"type":"ObjectEvent"}"#,
+        ),
+        (
+            r#"{"isA":"AssociationEvent","type":null}"#,
+            r#" {"isA":"AssociationEvent","type":"AssociationEvent"}"#,
+        ),
+        (
+            r#"{"@type":"x","isA":"x","type":"ObjectEvent"}"#,
+            r#" {"@type":"x","isA":"x","type":"ObjectEvent"}"#,
+        ),
+        (r#"{"@type":"x","isA":"ObjectEvent"}"#, " -"),
+        (r#"{"@type":["ObjectEvent","x"]}"#, " -"),
+        (r#"{"type":1,"isA":"ObjectEvent"}"#, " -"),
+        (r#"{"type":["ObjectEvent"]}"#, " -"),
+        (r#"{"isA":"EPCISDocument"}"#, " -"),
+    ];
+    assert!(rt; are_converted(rt.alloc(), &rows)?);
+    Ok(())
+}
+
+#[test]
+fn holders(rt: HostRuntime) -> Result<(), Fail> {
+    let rows = [
+        (
+            r#"{"type":"EPCISQueryDocument","id":"q","epcisBody":{"queryResults":{"queryName":"n","resultsBody":{"eventList":[{"type":"ObjectEvent"},{"isA":"ObjectEvent"},7]}}}}"#,
+            r#" {"epcisBody":{"eventList":[{"type":"ObjectEvent"},{"isA":"ObjectEvent","type":"ObjectEvent"},7]},"id":"q","type":"EPCISDocument"}"#,
+        ),
+        (
+            r#"{"type":"EPCISDocument","epcisBody":{"event":{"type":"ObjectEvent"}}}"#,
+            r#" {"epcisBody":{"eventList":[{"type":"ObjectEvent"}]},"type":"EPCISDocument"}"#,
+        ),
+        (
+            r#"{"@type":"EPCISDocument","epcisBody":{"event":[{"isA":"ObjectEvent"}],"eventList":null}}"#,
+            r#" {"@type":"EPCISDocument","epcisBody":{"eventList":[{"isA":"ObjectEvent","type":"ObjectEvent"}]},"type":"EPCISDocument"}"#,
+        ),
+        (
+            r#"{"type":"EPCISDocument","a":{"b":[]},"epcisBody":{"c":1,"eventList":[{"type":"x"},{}]}}"#,
+            r#" {"a":{"b":[]},"epcisBody":{"c":1,"eventList":[{"type":"x"},{}]},"type":"EPCISDocument"}"#,
+        ),
+        (
+            r#"{"type":"EPCISDocument","epcisBody":{"eventList":{}}}"#,
+            " -",
+        ),
+        (
+            r#"{"type":"EPCISQueryDocument","epcisBody":{"eventList":[]}}"#,
+            " -",
+        ),
+        (
+            r#"[{"type":"ObjectEvent"},8,[],{"isA":"TransactionEvent"}]"#,
+            r#" {"type":"ObjectEvent"} - - {"isA":"TransactionEvent","type":"TransactionEvent"}"#,
+        ),
+        ("[]", ""),
+        ("null", " -"),
+    ];
+    assert!(rt; are_converted(rt.alloc(), &rows)?);
+    Ok(())
+}
+
+/// Whether each text spells the lot beside it, by its one spelling; `-` where it spells none.
+fn have_lots(alloc: Global, rows: &[(&str, &str)]) -> Result<bool, Fail> {
+    for (text, want) in rows {
+        if !has_lot(alloc, text, want)? {
+            return Ok(false);
+        }
+    }
+    Ok(true)
+}
+
+/// Whether a text spells a lot.
+fn has_lot(alloc: Global, text: &str, want: &str) -> Result<bool, Fail> {
+    match lot_of(alloc, text)? {
+        Some(lot) => Ok(lot.as_str() == want),
+        None => Ok(want == "-"),
+    }
+}
+
+#[test]
+fn lots(rt: HostRuntime) -> Result<(), Fail> {
+    let lot = "https://id.gs1.org/01/04012345123456/10/998877";
+    let rows = [
+        ("urn:epc:class:lgtin:4012345.012345.998877", lot),
+        (lot, lot),
+        ("http://id.gs1.org/01/4012345123456/10/998877", lot),
+        (
+            "https://example.com/01/04012345123456/10/998877?17=261231#x",
+            lot,
+        ),
+        (
+            "https://example.com/01/96385074/10/a-b.c_d",
+            "https://id.gs1.org/01/00000096385074/10/a-b.c_d",
+        ),
+        (
+            "urn:epc:class:lgtin:4012345.012345.A%2fB",
+            "https://id.gs1.org/01/04012345123456/10/A%2FB",
+        ),
+        (
+            "https://id.gs1.org/01/04012345123456/10/A%252FB",
+            "https://id.gs1.org/01/04012345123456/10/A%252FB",
+        ),
+        (
+            "https://id.gs1.org/01/04012345123456/10/LOT%2D9!",
+            "https://id.gs1.org/01/04012345123456/10/LOT-9%21",
+        ),
+        ("https://id.gs1.org/01/04012345123457/10/998877", "-"),
+        ("https://id.gs1.org/01/04012345123456/10/998877/21/5", "-"),
+        ("https://id.gs1.org/01/04012345123456/10/", "-"),
+        ("https://id.gs1.org/01/04012345123456/10/a%20b", "-"),
+        (
+            "https://id.gs1.org/01/04012345123456/10/123456789012345678901",
+            "-",
+        ),
+        ("https://id.gs1.org/01/04012345123456/21/998877", "-"),
+        ("https://id.gs1.org/01/04012345123456", "-"),
+        ("urn:epc:idpat:sgtin:4012345.012345.*", "-"),
+        ("urn:epc:class:lgtin:4012345.12345.998877", "-"),
+        ("", "-"),
+    ];
+    assert!(rt; have_lots(rt.alloc(), &rows)?);
+    Ok(())
+}
+
+/// Whether each document has its lots among its items as that beside it.
+fn are_lotted(alloc: Global, rows: &[(&str, &str)]) -> Result<bool, Fail> {
+    for (text, want) in rows {
+        let document = document_with_lots(alloc, Value::from_str(alloc, text)?)?;
+        if document.to_string(alloc)?.as_str() != *want {
+            return Ok(false);
+        }
+    }
+    Ok(true)
+}
+
+#[test]
+fn quantities(rt: HostRuntime) -> Result<(), Fail> {
+    let rows = [
+        (
+            r#"{"type":"ObjectEvent","epcList":["x","urn:epc:class:lgtin:4012345.012345.B",7],"quantityList":[{"epcClass":"urn:epc:class:lgtin:4012345.012345.A","quantity":5}]}"#,
+            r#"{"epcList":["x","https://id.gs1.org/01/04012345123456/10/B",7,"https://id.gs1.org/01/04012345123456/10/A"],"type":"ObjectEvent"}"#,
+        ),
+        (
+            r#"{"type":"TransformationEvent","inputQuantityList":[{"epcClass":"https://a.b/01/04012345123456/10/A"},{"epcClass":"https://a.b/01/04012345123456/10/A"}],"outputEPCList":["y"],"outputQuantityList":[]}"#,
+            r#"{"inputEPCList":["https://id.gs1.org/01/04012345123456/10/A","https://id.gs1.org/01/04012345123456/10/A"],"outputEPCList":["y"],"outputQuantityList":[],"type":"TransformationEvent"}"#,
+        ),
+        (
+            r#"{"type":"AggregationEvent","childQuantityList":[{"epcClass":"urn:epc:class:lgtin:4012345.012345.A"}],"parentID":"urn:epc:class:lgtin:4012345.012345.P"}"#,
+            r#"{"childEPCs":["https://id.gs1.org/01/04012345123456/10/A"],"parentID":"https://id.gs1.org/01/04012345123456/10/P","type":"AggregationEvent"}"#,
+        ),
+        (
+            r#"{"type":"ObjectEvent","quantityList":[{"epcClass":"urn:epc:class:lgtin:4012345.012345.A"},{"epcClass":"urn:epc:idpat:sgtin:4012345.012345.*"}]}"#,
+            r#"{"quantityList":[{"epcClass":"urn:epc:class:lgtin:4012345.012345.A"},{"epcClass":"urn:epc:idpat:sgtin:4012345.012345.*"}],"type":"ObjectEvent"}"#,
+        ),
+        (
+            r#"{"type":"TransactionEvent","quantityList":[{"epcClass":"urn:epc:class:lgtin:4012345.012345.A"}]}"#,
+            r#"{"quantityList":[{"epcClass":"urn:epc:class:lgtin:4012345.012345.A"}],"type":"TransactionEvent"}"#,
+        ),
+        (
+            r#"{"type":"EPCISDocument","id":"d","epcisBody":{"eventList":[3,{"type":"ObjectEvent","quantityList":[{"epcClass":"urn:epc:class:lgtin:4012345.012345.A"}]}]}}"#,
+            r#"{"epcisBody":{"eventList":[3,{"epcList":["https://id.gs1.org/01/04012345123456/10/A"],"type":"ObjectEvent"}]},"id":"d","type":"EPCISDocument"}"#,
+        ),
+        (
+            r#"{"type":"EPCISDocument","epcisBody":{"a":1,"eventList":[{"type":"ObjectEvent","epcList":["x"]}]}}"#,
+            r#"{"epcisBody":{"a":1,"eventList":[{"epcList":["x"],"type":"ObjectEvent"}]},"type":"EPCISDocument"}"#,
+        ),
+    ];
+    assert!(rt; are_lotted(rt.alloc(), &rows)?);
+    Ok(())
+}
