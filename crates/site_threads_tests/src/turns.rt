@@ -1,5 +1,6 @@
 //! A recall of two sites, by turns of each with its own seat; and a desk.
 mod fixtures;
+mod refused;
 
 ghost use Rattle.std.specs.Prelude.{◌≡◌, ◌≤◌, ◌+◌, [], ◌∷◌, IfOk, OnOk};
 ghost use Rattle.wire_core.specs.Rule.{logs_from};
