@@ -11,6 +11,8 @@ mod disks;
 #[cfg(test)]
 mod openings;
 #[cfg(test)]
+mod refused;
+#[cfg(test)]
 mod shown;
 #[cfg(test)]
 mod sites;

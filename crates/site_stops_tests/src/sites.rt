@@ -154,7 +154,7 @@ pub fn fresh(keeping: &Keeping, is_second: bool) -> Option<SiteState> {
 }
 
 /// Few pages are kept in memory, since that is made anew at each opening.
-fn options(keeping: &Keeping) -> Options {
+pub fn options(keeping: &Keeping) -> Options {
     let mut options = Options::new(1);
     options.cache_pages = 16;
     options.checkpoint_frames = keeping.frames;
@@ -162,7 +162,7 @@ fn options(keeping: &Keeping) -> Options {
 }
 
 /// A connection to the files, or what is left of them where a disk failed.
-fn connected(
+pub fn connected(
     keeping: &Keeping,
     files: Files<Frail>,
 ) -> Result<Connection<FileStore<Frail>>, Files<Frail>> {
@@ -176,7 +176,7 @@ fn connected(
 }
 
 /// The files behind a connection over which no site was opened.
-fn shut(conn: Connection<FileStore<Frail>>, is_of_device: bool) -> Opening {
+pub fn shut(conn: Connection<FileStore<Frail>>, is_of_device: bool) -> Opening {
     let files = conn.into_store().close();
     if is_of_device {
         Opening::Failed(files)
@@ -220,7 +220,7 @@ fn together(keeping: &Keeping, a: Site, b: Site) -> Result<Both, Ended> {
 }
 
 /// A site that is kept in files of which one fails so.
-fn begun(keeping: &Keeping, blow: &Blow, is_second: bool) -> Result<Site, Ended> {
+pub fn begun(keeping: &Keeping, blow: &Blow, is_second: bool) -> Result<Site, Ended> {
     match fresh(keeping, is_second) {
         Some(state) => {
             let files = files(keeping.alloc, blow, is_second);

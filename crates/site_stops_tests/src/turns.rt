@@ -13,7 +13,7 @@ use std::alloc::Global;
 use world_core::{Answer, World, WorldEvent, WorldInput};
 
 /// A transformation of x into y, and a shipment of y to site B with an eventID.
-const DOCUMENT: &str = "{\"type\":\"EPCISDocument\",\"epcisBody\":{\"eventList\":[\
+pub const DOCUMENT: &str = "{\"type\":\"EPCISDocument\",\"epcisBody\":{\"eventList\":[\
      {\"type\":\"TransformationEvent\",\"eventTime\":\"2024-05-01T08:00:00Z\",\
      \"eventTimeZoneOffset\":\"+00:00\",\"inputEPCList\":[\"x\"],\"outputEPCList\":[\"y\"]},\
      {\"type\":\"ObjectEvent\",\"eventTime\":\"2024-05-01T08:00:00Z\",\"eventTimeZoneOffset\":\"+00:00\",\
