@@ -1,68 +1,63 @@
-"""Refuses each growth of a small program of the crates, one after another: reading a document, steps in place, steps at a site
-in a file, its making and opening, a script. What is promised: the answer with ample memory, or NoMemory with all as it was
-before, and then, of the call made again, the answer with ample memory. A turn is left to `run` of the program (memory.py).
+"""Refuses each growth of the tests of the crates that are made for it, one after another: a document, steps in place, a site in
+a file, a script, turns. What is promised: the answer with ample memory, or NoMemory, and then, of the call made again, the
+answer with ample memory. So such a test passes, or ends for want of memory while it makes what its calls are given.
 
-The program, growth.rt.txt, is built beside a copy of the crates by `rt run`, which has to prove it first and doesn't yet; or GROWTH names
-a built one, which may be built without proofs.
+The gate proves and runs these tests with ample memory, and leaves them built beside their crates; so does `rt test` in the
+crate's folder. What isn't built is left out.
 """
 import os
-import pathlib
-import shutil
 import subprocess
 
 from chains import HERE
 import memory
 
-NAMES = "site_store site_rows site_tables script_core recall_text world_core site_recovery keeper_core site_core scholten_core trace_core frame_core event_json epc_core"
+# For each crate of tests the tests whose growth is refused.
+TESTS = {
+    "site_tests": ["steps::refused::a_document_is_read_where_growth_is_refused", "steps::refused::steps_are_taken_where_growth_is_refused"],
+    "command_tests": ["scripts::refused::a_script_ends_at_the_line_at_which_growth_is_refused"],
+    "site_stops_tests": ["refused::a_site_in_files_goes_on_where_growth_is_refused"],
+    "site_threads_tests": ["turns::refused::a_recall_ends_where_growth_is_refused"],
+}
+# How a test ends that has no memory for what its calls are given.
+LACKS = {b"error: NoMemory", b"error: AllocError"}
 
 
-def built(work):
-    """The program, or why there is none."""
-    if os.environ.get("GROWTH"):
-        return os.environ["GROWTH"], None
-    if shutil.which("rt") is None:
-        return None, "rt isn't installed, and GROWTH names no built program"
-    top, root = HERE.parent.parent, work / "growth"
-    listed = [line for line in (top / "crates.txt").read_text().splitlines() if line.split(":")[0].split(" ")[0] in NAMES.split()]
-    for name in NAMES.split():
-        shutil.copytree(top / "crates" / name, root / "crates" / name, ignore=shutil.ignore_patterns("out"))
-    shutil.copy(top / "HANDLES", root)
-    (root / "crates.txt").write_text("\n".join(listed + ["growth: site_store site_rows script_core recall_text keeper_core site_core frame_core event_json epc_core sqlite"]) + "\n")
-    (root / "crates" / "growth" / "src").mkdir(parents=True)
-    shutil.copy(HERE / "growth.rt.txt", root / "crates" / "growth" / "src" / "main.rt")
-    ran = subprocess.run(["rt", "run", "--", work / "first.db"], cwd=root / "crates" / "growth", capture_output=True, text=True)
-    made = root / "crates" / "growth" / "out" / "growth"
-    return (made, None) if made.exists() else (None, f"rt run doesn't build it: {(ran.stdout + ran.stderr)[-400:]}")
-
-
-def ran(path, work, **settings):
-    for file in work.glob("grows.db*"):
-        file.unlink()
+def ran(program, test, work, **settings):
     env = {**os.environ, "LD_PRELOAD": str(memory.SHIMS / "failmalloc.so"), **{k: str(v) for k, v in settings.items()}}
-    it = subprocess.run([path, work / "grows.db"], env=env, capture_output=True, text=True)
-    return it.returncode, it.stdout.splitlines(), it.stderr
+    return subprocess.run([program, test], cwd=work, env=env, capture_output=True)
 
 
-def refused(line):
-    """The line of a call that was refused and made again, as it is with ample memory; or the line itself."""
-    name, rest = line.split(" ", 1)
-    return f"{name} {rest.removeprefix('NoMemory, as before, then ')}"
+def judged(it):
+    """What a run of a test came to, and what is wrong with it."""
+    said = set(it.stdout.splitlines() + it.stderr.splitlines())
+    if it.returncode == 0:
+        return "the calls ended as with ample memory", None
+    if it.returncode > 0 and said & LACKS:
+        return "no memory for what the calls are given", None
+    return f"status {it.returncode}", (it.stdout + it.stderr).decode()[-400:] or "it says nothing"
+
+
+def cases(tally, work):
+    """Each growth of each test that is built."""
+    for crate, tests in TESTS.items():
+        program = HERE.parent.parent / "crates" / crate / "out" / f"{crate}_tests"
+        if not program.exists():
+            print(f"growth of {crate} is left out: its tests aren't built, as the gate or `rt test` builds them")
+            continue
+        listed = subprocess.run([program, "--list"], capture_output=True, text=True).stdout
+        for test in tests:
+            name, count = test.rsplit("::", 1)[1], work / "count"
+            if f"{test}: test" not in listed.splitlines():
+                tally.tell(f"growth {name}", "not among the tests that are built", f"{crate} has no {test}")
+                continue
+            count.unlink(missing_ok=True)
+            status = ran(program, test, work, FAIL_COUNT=count).returncode
+            calls = int.from_bytes(count.read_bytes(), "little") if count.exists() else 0
+            tally.tell(f"growth {name} with ample memory", f"status {status}, {calls} allocations", None if status == 0 and calls else "it fails, or no allocation is counted")
+            yield from ((program, test, name, n) for n in range(1, calls + 1))
 
 
 def run(tally, setting, work):
-    path, lacks = built(work)
-    if path is None:
-        print(f"growth is left out: {lacks}")
-        return
-    count = work / "count"
-    count.unlink(missing_ok=True)
-    status, ample, _ = ran(path, work, FAIL_COUNT=count)
-    calls = int.from_bytes(count.read_bytes(), "little") if count.exists() else 0
-    if not calls:
-        print("growth is left out: this program asks another library for its memory")
-        return
-    tally.tell("growth with ample memory", f"{len(ample)} lines, {calls} allocations", None if status == 0 and not any("NoMemory" in it for it in ample) else f"status {status}")
-    for n in setting.some(range(1, calls + 1)):
-        status, lines, err = ran(path, work, FAIL_AT=n)
-        wrong = None if status == 0 and [refused(it) for it in lines] == ample else f"status {status} {next((f'{a!r} for {b!r}' for a, b in zip(lines, ample) if refused(a) != b), f'{len(lines)} lines')} {err}"
-        tally.tell(f"growth at {n}", "refused, and made again" if any("NoMemory" in it for it in lines) else "as with ample memory", wrong)
+    for program, test, name, n in setting.some(cases(tally, work)):
+        what, wrong = judged(ran(program, test, work, FAIL_AT=n))
+        tally.tell(f"growth {name} at {n}", what, wrong)
