@@ -1,5 +1,5 @@
 -- Lots: a GTIN with a batch or lot number (GS1 General Specifications, application identifiers 01 and 10).
-use Rattle.std.specs.Prelude.{◌≡◌, ℕ, Bool, ◌==◌, ◌&&◌, ◌||◌, nat_le, if◌then◌else◌, List, [], ◌∷◌, ◌++◌, length, take, drop, codes, Option, Some, None, option_and_then, option_map, unwrap_or, Result, Ok, Err}
+use Rattle.std.specs.Prelude.{is_none, ◌≡◌, ℕ, Bool, ◌==◌, ◌&&◌, ◌||◌, nat_le, if◌then◌else◌, List, [], ◌∷◌, ◌++◌, length, take, drop, codes, Option, Some, None, option_and_then, option_map, unwrap_or, Result, Ok, Err}
 use Rattle.std.specs.List.{flat_map}
 use Rattle.std.specs.Option.{option_or}
 use Rattle.percent_encoding.specs.Percent.{percent_encode_byte}
@@ -55,16 +55,24 @@ zeros count =
     if count == 12 then Some (codes "00") else
     if count == 8 then Some (codes "000000") else None
 
--- the path of a link behind its host: the digits of a GTIN, and a lot
+-- behind an application identifier and a slash, or behind its name
+abbrev pub behind_key : List ℕ → List ℕ → List ℕ → Option (List ℕ)
+behind_key number_key name_key path = option_or (behind number_key path) (behind name_key path)
+
+-- behind a consumer product variant (application identifier 22), where there is one
+abbrev pub past_variant : List ℕ → List ℕ
+past_variant path = unwrap_or (option_map (λ parts. parts.1) (option_and_then (parted 47) (behind_key (codes "22/") (codes "cpv/") path))) path
+
+-- a path that begins with the digits of a GTIN, and then has a lot
 abbrev pub path_parts : List ℕ → Option (List ℕ × List ℕ)
 path_parts path =
     option_and_then (λ rest.
     option_and_then (λ parts.
-    option_map (λ lot. (parts.0, before_query lot)) (behind (codes "10/") parts.1))
+    option_map (λ lot. (parts.0, before_query lot)) (behind_key (codes "10/") (codes "lot/") (past_variant parts.1)))
     (parted 47 rest))
-    (behind (codes "01/") path)
+    (behind_key (codes "01/") (codes "gtin/") path)
 
--- a Digital Link of a lot, on any host
+-- a Digital Link of a lot, on any host (GS1 Digital Link standard, URI syntax)
 abbrev pub link_parts : List ℕ → Option (List ℕ × List ℕ)
 link_parts text = option_and_then (λ parts. path_parts parts.1) (option_and_then (parted 47) (behind_scheme text))
 
@@ -74,8 +82,20 @@ unit_of_parts parts = option_map (λ front. sgtin_link (front ++ parts.0) parts.
 abbrev pub unit_of_link : List ℕ → Option (List ℕ)
 unit_of_link text = option_and_then unit_of_parts (link_parts text)
 
+-- `(01)GTIN-14(10)Lot`, an element string in brackets with nothing behind the lot (GS1 General Specifications, section 7.8)
+abbrev pub element_parts : List ℕ → Option (List ℕ × List ℕ)
+element_parts text =
+    option_and_then (λ rest.
+    option_and_then (λ parts.
+    option_and_then (λ lot. if is_none (parted 40 lot) then Some (parts.0, lot) else None) (behind (codes "10)") parts.1))
+    (parted 40 rest))
+    (behind (codes "(01)") text)
+
+abbrev pub unit_of_element : List ℕ → Option (List ℕ)
+unit_of_element text = option_map (λ parts. sgtin_link parts.0 (escape parts.1)) (element_parts text)
+
 unfoldable pub unit_of : List ℕ → Option (List ℕ)
-unit_of text = option_or (unit_of_uri text) (unit_of_link text)
+unit_of text = option_or (unit_of_uri text) (option_or (unit_of_link text) (unit_of_element text))
 
 -- a text spells the lot of this GTIN-14, whose check digit is right, and this number, 1 to 20 of the 82 characters
 pub record SpellsLot (text gtin number : List ℕ) : Type 0 where

@@ -1,11 +1,11 @@
 //! Lots, and the one spelling of each.
 
-ghost use Rattle.std.specs.Prelude.{◌≡◌, ◌++◌, IfOk, IsTrue, OnOk, codes, option_map, string_bytes};
+ghost use Rattle.std.specs.Prelude.{◌≡◌, ◌++◌, IfOk, IsTrue, OnOk, codes, option_and_then, option_map, string_bytes};
 ghost use Rattle.std.specs.List.{list_all};
 ghost use Rattle.epc_core.specs.Items.{parted};
 ghost use Rattle.epc_core.specs.Numbers.{is_digit};
 ghost use Rattle.epc_core.specs.Reading.{reading};
-ghost use Rattle.document_convert.specs.Lots.{before, before_query, behind_scheme, escape, escape_byte, is_kept, link_parts, lot_of, lot_of_key, lot_read, lot_text, path_parts, unit_of, unit_of_link, unit_of_parts, unit_of_uri, zeros};
+ghost use Rattle.document_convert.specs.Lots.{before, before_query, behind_key, behind_scheme, element_parts, escape, escape_byte, is_kept, link_parts, lot_of, lot_of_key, lot_read, lot_text, past_variant, path_parts, unit_of, unit_of_element, unit_of_link, unit_of_parts, unit_of_uri, zeros};
 
 use epc_core::{Epc, EpcFault, EpcForm};
 use percent_encoding::percent_encode_byte;
@@ -112,13 +112,40 @@ fn before_query(text: &str) -> &str
     before_question(before_fragment(text))
 }
 
-/// The path of a link behind its host: the digits of a GTIN, and a lot.
+/// What is behind the first of two fronts that a path has.
+fn behind_key<'p>(path: &'p str, number: &str, name: &str) -> Option<&'p str>
+    ensures { option_map (λ t. t.now) result ≡ behind_key number.now name.now path.now }
+{
+    match path.strip_prefix(number) {
+        Some(rest) => Some(rest),
+        None => path.strip_prefix(name),
+    }
+}
+
+/// What is behind a consumer product variant, where there is one.
+fn past_variant(path: &str) -> &str
+    ensures { result.now ≡ past_variant path.now }
+{
+    match variant(path) {
+        Some((_, rest)) => rest,
+        None => path,
+    }
+}
+
+/// A consumer product variant, and what is behind it.
+fn variant(path: &str) -> Option<(&str, &str)>
+    ensures { option_map (λ p. (p.0.now, p.1.now)) result
+        ≡ option_and_then (parted 47) (behind_key (codes "22/") (codes "cpv/") path.now) }
+{
+    parted(behind_key(path, "22/", "cpv/")?)
+}
+
+/// The digits of a GTIN that a path begins with, and the lot that it has then.
 fn path_parts(path: &str) -> Option<(&str, &str)>
     ensures { option_map (λ p. (p.0.now, p.1.now)) result ≡ path_parts path.now }
 {
-    let rest = path.strip_prefix("01/")?;
-    let (gtin, rest) = parted(rest)?;
-    let lot = rest.strip_prefix("10/")?;
+    let (gtin, rest) = parted(behind_key(path, "01/", "gtin/")?)?;
+    let lot = behind_key(past_variant(rest), "10/", "lot/")?;
     Some((gtin, before_query(lot)))
 }
 
@@ -190,14 +217,51 @@ fn unit_of_uri(alloc: Global, text: &str) -> Result<Option<String>, AllocError>
     }
 }
 
+/// What is before the first opening bracket, and what is behind it.
+fn at_bracket(text: &str) -> Option<(&str, &str)>
+    ensures { option_map (λ p. (p.0.now, p.1.now)) result ≡ parted 40 text.now }
+{
+    text.split_once('(')
+}
+
+/// The GTIN and the lot of an element string in brackets, with nothing behind the lot.
+fn element_parts(text: &str) -> Option<(&str, &str)>
+    ensures { option_map (λ p. (p.0.now, p.1.now)) result ≡ element_parts text.now }
+{
+    let (gtin, rest) = at_bracket(text.strip_prefix("(01)")?)?;
+    let lot = rest.strip_prefix("10)")?;
+    match at_bracket(lot) {
+        Some(_) => None,
+        None => Some((gtin, lot)),
+    }
+}
+
+/// The link of the unit that has the lot of an element string for its serial number.
+fn unit_of_element(alloc: Global, text: &str) -> Result<Option<String>, AllocError>
+    ensures { IfOk result (λ unit. option_map string_bytes unit ≡ unit_of_element text.now) }
+{
+    let Some((gtin, lot)) = element_parts(text) else {
+        return Ok(None);
+    };
+    let mut unit = String::new(alloc);
+    unit.push_str("https://id.gs1.org/01/")?;
+    unit.push_str(gtin)?;
+    unit.push_str("/21/")?;
+    push_number(&mut unit, lot.as_bytes())?;
+    Ok(Some(unit))
+}
+
 /// The text of the unit that has the lot of a text for its serial number.
 #[tactic(auto, unfolding(crate::specs::Lots::unit_of))]
 fn unit_of(alloc: Global, text: &str) -> Result<Option<String>, AllocError>
     ensures { IfOk result (λ unit. option_map string_bytes unit ≡ unit_of text.now) }
 {
-    match unit_of_uri(alloc, text)? {
+    if let Some(unit) = unit_of_uri(alloc, text)? {
+        return Ok(Some(unit));
+    }
+    match unit_of_link(alloc, text)? {
         Some(unit) => Ok(Some(unit)),
-        None => unit_of_link(alloc, text),
+        None => unit_of_element(alloc, text),
     }
 }
 
@@ -226,11 +290,16 @@ fn lot_read(alloc: Global, unit: &str) -> Result<Option<String>, AllocError>
 /// The one spelling of the lot that a text spells, `None` where it spells none.
 ///
 /// A lot is a GTIN with a batch or lot number (GS1 General Specifications, application identifiers 01 and 10). A text
-/// spells it as an EPC class URI, `urn:epc:class:lgtin:CompanyPrefix.ItemReference.Lot` (EPC Tag Data Standard), or as
-/// a Digital Link, `http` or `https`, on any host, whose path is `/01/<gtin>/10/<lot>`: a GTIN of 8, 12, 13 or 14
-/// digits, which is filled with zeros to 14, and no further key; a query and a fragment are passed over. The GTIN's
-/// check digit has to be right. A lot number has 1 to 20 of the 82 characters of a serial number, after its escapes
-/// are decoded.
+/// spells it
+///
+/// - as an EPC class URI, `urn:epc:class:lgtin:CompanyPrefix.ItemReference.Lot` (EPC Tag Data Standard, section 6.4);
+/// - as a Digital Link, `http` or `https`, on any host, with the path `/01/<gtin>/10/<lot>`, or `gtin` and `lot`
+///   in place of the numbers, with a consumer product variant (`/22/<variant>`, `cpv`) between them or not, and no
+///   further key; a GTIN of 8, 12 or 13 digits is filled with zeros to 14, and a query and a fragment are passed over;
+/// - as an element string in brackets, `(01)<gtin>(10)<lot>`, with a GTIN of 14 digits and nothing behind it.
+///
+/// The GTIN's check digit has to be right. A lot number has 1 to 20 of the 82 characters of a serial number; of the
+/// first two its escapes are decoded.
 ///
 /// Its spelling is `https://id.gs1.org/01/<gtin>/10/<lot>`, with each byte of the lot number but letters, digits, `-`,
 /// `.` and `_` escaped, in capital letters.
