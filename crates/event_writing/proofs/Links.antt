@@ -45,13 +45,16 @@ item_spelled gtin serial checked allowed =
     let escaped = percent_encode RESERVED serial in
     let decodes : percent_decode escaped ≡ serial = round_trip RESERVED serial refl (bytes_of serial allowed.allowed) in
     let again : IsSerial (percent_decode escaped) = subst IsSerial (sym decodes) allowed in
-    let part : list_all is_part_byte escaped ≡ true = list_all-from_AllPass is_part_byte escaped (All-percent_encode (λ b. is_part_byte b ≡ true) RESERVED serial kept_is_part escape_is_part) in
+    let each = All-percent_encode (λ b. is_part_byte b ≡ true) RESERVED serial kept_is_part escape_is_part in
+    let part : list_all is_part_byte escaped ≡ true = list_all-from_AllPass is_part_byte escaped each in
     let long = (length-percent_decode escaped).1 in
     let few = again.few in
     let counted = checked.counted in
-    let one = length-append gtin (codes "/21/" ++ escaped) in
+    let tail = codes "/21/" ++ escaped in
+    let one = length-append gtin tail in
+    let plain = all_append is_plain_byte gtin tail (digits_plain gtin checked.are_digits) (escaped_plain escaped again.allowed) in
     record {
-      plain = record { some = omega arith; few = omega arith; allowed = all_append is_plain_byte gtin (codes "/21/" ++ escaped) (digits_plain gtin checked.are_digits) (escaped_plain escaped again.allowed) };
+      plain = record { some = omega arith; few = omega arith; allowed = plain };
       item = inl (inl (inr (record { gtin = gtin; escaped = escaped; is = refl; checked = checked; part = part; serial = again; names = ap (sgtin_key gtin) (sym decodes) })));
     }
 

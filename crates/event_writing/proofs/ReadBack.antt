@@ -144,7 +144,8 @@ document_shallow : (id : Option (List ℕ)) (time parent : List ℕ) (children :
 document_shallow id time parent children d value = subst (λ v. depth v ≤ max_depth) (sym value.is) (shallow id time value.named value.texts)
 
 -- the text of a value that was made of an event's parts
-pub text_told : (e : Content) (body : Body) (id : Option (List ℕ)) (time parent : List ℕ) (children : List (List ℕ)) (d : Data) (text : List ℕ)
+pub text_told : (e : Content) (body : Body) (id : Option (List ℕ)) (time parent : List ℕ) (children : List (List ℕ)) (d : Data)
+    (text : List ℕ)
     → body ≡ e.body → body ≡ Pack Add (Some parent) children → id ≡ e.id → instant_of time ≡ Ok e.instant → IsDocumentOf id time parent children d
     → (depth d ≤ max_depth → read text ≡ Some d) → IsPackingText e text
 text_told e body id time parent children d text same packs named tells value reads = (

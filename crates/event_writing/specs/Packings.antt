@@ -1,4 +1,5 @@
--- A packing, an AggregationEvent of action ADD, as an EPCISDocument (GS1 EPCIS 2.0, JSON form) that is read as this event alone.
+-- A packing as a document that is read as this event alone: an AggregationEvent of action ADD (GS1 EPCIS 2.0, section
+-- 7.4.3) in an EPCISDocument in its JSON form.
 use Rattle.std.specs.Prelude.{◌≡◌, ℕ, List, [], ◌∷◌, codes, map, Option, Some, None, Ok}
 use Rattle.std.specs.List.{AllZip}
 use Rattle.jiff.specs.Words.{IsTimestampNanos}

@@ -15,8 +15,8 @@ use std::alloc::{AllocError, Global};
 /// `event_json::read_document` reads as this event alone, with its eventID, its instant, its parent and its children in
 /// order, whatever sites are listed. `None` where the event is no packing, or no time names its instant.
 ///
-/// Trade items and logistic units are given by their Digital Links on `id.gs1.org`, other items by their texts, and times
-/// in UTC; the creationDate is the time of the event, so that nothing but the event decides over the text.
+/// Trade items and logistic units are given by their Digital Links on `id.gs1.org`, other items by their texts, and
+/// times in UTC; the creationDate is the time of the event, so that nothing but the event decides over the text.
 ///
 /// # Errors
 /// Out of memory.

@@ -9,6 +9,8 @@ mod epcs;
 #[cfg(test)]
 mod gaps;
 #[cfg(test)]
+mod packings;
+#[cfg(test)]
 mod places;
 #[cfg(test)]
 mod scans;
