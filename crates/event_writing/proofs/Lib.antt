@@ -1,3 +1,5 @@
 pub mod Clocks
+pub mod Instants
 pub mod Links
 pub mod ReadBack
+pub mod Timestamps
