@@ -65,3 +65,8 @@ complete -c recall -n '__fish_seen_subcommand_from lint' -l json -d 'Print JSON,
 complete -c recall -n '__fish_seen_subcommand_from lint' -l site -x -d 'Tell of events that happened at another traced site than this one'
 complete -c recall -n '__fish_seen_subcommand_from lint' -l max-bytes -x -d 'Refuse a document, or a line, that is longer, 1 to 1073741824 [default: 67108864]'
 complete -c recall -n '__fish_seen_subcommand_from lint' -l help -d 'Print help'
+complete -c recall -n __fish_use_subcommand -f -a gaps -d 'Finds what sites tell nothing of, so that a recall would miss it: goods in others\' containers'
+complete -c recall -n '__fish_seen_subcommand_from gaps' -l json -d 'Print JSON, an object a line'
+complete -c recall -n '__fish_seen_subcommand_from gaps' -l wait -x -d 'Wait so long for a site\'s file that another program has open, 0 to 86400 [default: 0]'
+complete -c recall -n '__fish_seen_subcommand_from gaps' -l exit-code -d 'End with status 5 where there are gaps'
+complete -c recall -n '__fish_seen_subcommand_from gaps' -l help -d 'Print help'
