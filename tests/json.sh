@@ -77,22 +77,22 @@ tells 1 '{"event":1,"field":"quantityList","kind":"Quantities","refused":"Doc"}'
 "$recall" capture --json made dairy "$chain/dairy.json" >out 2>err || complain "a capture: $(cat out err)"
 is_json out && is_json err || complain "no JSON: $(cat out err)"
 printf '{"type":"ObjectEvent","eventTime":"2024-05-01T08:00:00Z","eventTimeZoneOffset":"+00:00","action":"OBSERVE","epcList":["x"],"bizStep":"shipping"}' >aimless
-tells 0 '{"captured":1,"known":0,"skipped":0}' '{"note":"note: 1 event of bizStep shipping has no destination: nothing is traced past it"}
-{"note":"note: 1 event has no eventID: captured again, it counts again"}' capture made dairy aimless
+tells 0 '{"captured":1,"known":0,"skipped":0}' '{"note":"1 event of bizStep shipping has no destination: nothing is traced past it"}
+{"note":"1 event has no eventID: captured again, it counts again"}' capture made dairy aimless
 mkdir spelled
 printf 'site plant https://id.gs1.org/414/9521321000025\nsite shop-1 https://id.gs1.org/414/9521321000032\n' >list
 tells 0 '{"created":["plant","shop-1"]}' '' init spelled list
 printf '{"type":"ObjectEvent","eventID":"e","eventTime":"2024-05-01T08:00:00Z","eventTimeZoneOffset":"+00:00","action":"OBSERVE","epcList":["x"],"destinationList":[{"type":"location","destination":"urn:epc:id:sgln:9521321.00003.0"}]}' >spelling
-tells 0 '{"captured":1,"known":0,"skipped":0}' '{"note":"note: 1 destination is no traced site: what went there counts as outside"}' capture spelled plant spelling
-tells 0 '{"outside":[{"destination":"urn:epc:id:sgln:9521321.00003.0","item":"uri x","site":"plant"}],"pairs":[{"item":"uri x","site":"plant","trail":[{"item":"uri x","site":"plant"}]}],"root":{"item":"uri x","site":"plant"},"trace":"forward"}' '{"note":"note: the destination urn:epc:id:sgln:9521321.00003.0 may be shop-1, whose address https://id.gs1.org/414/9521321000032 names the same place"}' trace spelled plant x
+tells 0 '{"captured":1,"known":0,"skipped":0}' '{"note":"1 destination is no traced site: what went there counts as outside"}' capture spelled plant spelling
+tells 0 '{"outside":[{"destination":"urn:epc:id:sgln:9521321.00003.0","item":"uri x","site":"plant"}],"pairs":[{"item":"uri x","site":"plant","trail":[{"item":"uri x","site":"plant"}]}],"root":{"item":"uri x","site":"plant"},"trace":"forward"}' '{"note":"the destination urn:epc:id:sgln:9521321.00003.0 may be shop-1, whose address https://id.gs1.org/414/9521321000032 names the same place"}' trace spelled plant x
 tells 1 '{"event":1,"fault":"Quantities","field":"quantityList","file":"quantities"}
 {"event":1,"field":"destinationList","file":"aimless","warning":"ShipsNowhere"}
 {"event":1,"file":"aimless","warning":"NoEventID"}
 {"total":{"events":2,"faults":1,"warnings":2}}' '' lint "$chain/sites" quantities aimless
 tells 1 '{"captured":1,"file":"aimless","known":0,"skipped":0}
 {"event":1,"field":"quantityList","file":"quantities","kind":"Quantities","refused":"Doc"}
-{"captured":1,"documents":2,"known":0,"refused":1,"skipped":0}' '{"note":"note: 1 event of bizStep shipping has no destination: nothing is traced past it"}
-{"note":"note: 1 event has no eventID: captured again, it counts again"}' capture made dairy aimless quantities
+{"captured":1,"documents":2,"known":0,"refused":1,"skipped":0}' '{"note":"1 event of bizStep shipping has no destination: nothing is traced past it"}
+{"note":"1 event has no eventID: captured again, it counts again"}' capture made dairy aimless quantities
 tells 1 '{"event":1,"field":"quantityList","file":"quantities event 1","kind":"Quantities","refused":"Doc"}
 {"captured":0,"documents":1,"known":0,"refused":1,"skipped":0}' '' capture made dairy quantities --each
 for site in plant shop-1 shop-2; do
@@ -103,14 +103,14 @@ done
 tells 1 '{"refused":"BadEpc"}' '' start made plant 'a b'
 tells 1 '{"refused":"BadKey"}' '' start made plant 'a b' --key
 tells 1 '{"kind":"CheckDigit","refused":"BadScan"}' '' start made plant '(01)09521321000118(21)tank-7' --scan
-tells 1 '{"refused":"UnknownItem"}' '{"note":"note: dairy knows uri x"}' start made shop-1 x
-tells 0 '{"messages":2,"new":4,"would":"recall"}' '{"note":"note: nothing was begun; this is of the site alone, and `recall trace` tells what a recall would find at all sites"}' start made plant "$tank" --dry-run
+tells 1 '{"refused":"UnknownItem"}' '{"note":"dairy knows uri x"}' start made shop-1 x
+tells 0 '{"messages":2,"new":4,"would":"recall"}' '{"note":"nothing was begun; this is of the site alone, and `recall trace` tells what a recall would find at all sites"}' start made plant "$tank" --dry-run
 for words in "" --brief --back "--back --brief" --events "--back --brief --events"; do
     # shellcheck disable=SC2086
     "$recall" trace --json made plant "$tank" $words >out 2>err || complain "a trace: $(cat out err)"
     is_json out && is_json err || complain "no JSON: $(cat out err)"
 done
-tells 1 '{"refused":"UnknownItem"}' '{"note":"note: dairy knows uri x"}' trace made shop-1 x
+tells 1 '{"refused":"UnknownItem"}' '{"note":"dairy knows uri x"}' trace made shop-1 x
 tells 0 '{"events":2,"item":"sgtin 09521321000117 tank-7","site":"plant"}' '' items made plant tank
 tells 0 '' '' status made
 "$recall" start --json made plant "$tank" >out 2>err || complain "a start: $(cat out err)"
@@ -118,7 +118,7 @@ is_json out && is_json err || complain "no JSON: $(cat out err)"
 [ "$(sed -E 's/"(messages|new)":[0-9]+/"\1":n/g' out)" = '{"ended":false,"messages":n,"new":n,"recall":"plant#1"}' ] || complain "a start: $(cat out)"
 tells 0 '{"audit":"open","recall":"plant#1"}' '' audit made
 open='{"ended":false,"quarantined":4,"recall":"plant#1","root":{"item":"sgtin 09521321000117 tank-7","site":"plant"},"waiting":2}'
-goes_on='{"note":"note: `recall run` goes on with what is open"}'
+goes_on='{"note":"`recall run` goes on with what is open"}'
 tells 0 "$open" "$goes_on" status made
 tells 5 "$open" "$goes_on" status made --exit-code
 "$recall" status --json made 'plant#1' >out 2>err || complain "how a recall stands: $(cat out err)"
@@ -135,6 +135,7 @@ pairs=$("$recall" audit made | sed -n 's/^equal plant#1 pairs //p')
 tells 0 "{\"audit\":\"equal\",\"pairs\":$pairs,\"recall\":\"plant#1\"}" '' audit made
 tells 1 '{"refused":"UnknownRecall"}' '' report made 'plant#9'
 tells 1 '{"refused":"BadLine"}' '' report made plant
+tells 5 '{"items":0,"packed":[],"unseen":[{"from":"plant","item":"sscc 095213210000000421","site":"shop-1"}],"used":[]}' '' gaps made --exit-code
 
 echo "a report says the same in both forms"
 "$recall" report made 'plant#1' >words || complain "a report"

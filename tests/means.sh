@@ -1,10 +1,10 @@
 # What the error stream of a command on files has behind its results: a sentence for each refusal and each fault, as the
 # sources have them. Read by the scripts beside it, which set `here`.
 
-# meaning KIND::NAME: the sentence of a fault, of a refusal, or of what is wrong with a document
+# meaning KIND::NAME: the sentence of a fault or of its cause, of a refusal, or of what is wrong with a document
 meaning() {
     awk -v arm="$1" '
-        /fn [a-z_]*_sentence\(/ { inside = 1 }
+        /fn ([a-z_]*_sentence|sentence_of)\(/ { inside = 1 }
         /^}/ { inside = 0 }
         inside && $1 ~ "^" arm "(\\(.*)?$" { found = 1 }
         found && match($0, /".*"/) { print substr($0, RSTART + 1, RLENGTH - 2); exit }
@@ -35,7 +35,14 @@ explained() {
     case $errors in
     'fault '*)
         line=${errors%%$'\n'*}
-        printf '%s\n%s\n' "$errors" "$(meaning "Fault::${line#fault }")"
+        case $errors in
+        *': in use by another program') sentence=$(meaning 'Some[(]Cause::InUse[)]') ;;
+        *': damaged') sentence=$(meaning 'Some[(]Cause::Damaged[)]') ;;
+        *': no space left') sentence=$(meaning 'Some[(]Cause::NoSpace[)]') ;;
+        *': no permission') sentence=$(meaning 'Some[(]Cause::NoPermission[)]') ;;
+        *) sentence=$(meaning "Fault::${line#fault }") ;;
+        esac
+        printf '%s\n%s\n' "$errors" "$sentence"
         return
         ;;
     esac
