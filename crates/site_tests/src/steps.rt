@@ -4,6 +4,7 @@
 mod orders;
 mod parts;
 mod refusals;
+mod refused;
 mod restored;
 mod taken_back;
 
