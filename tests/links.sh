@@ -2,9 +2,11 @@
 # Resolves each relative link of the repository's Markdown files: the file is there, `#heading` is a heading of a
 # Markdown file, and `#name` behind a source (.rt, .antt) is defined in that source. In tables with the columns
 # Function and Clause it also looks whether the function's contract has these clauses.
-# Prints each link that doesn't resolve and how many there are in all. Exit 1 where one doesn't, or where there is none.
+# Prints each link that doesn't resolve and how many there are in all. Exit 1 where one doesn't, or where there is none,
+# or where docs/img/crates.svg isn't the picture of crates.txt any more.
 set -u
 cd "$(dirname "$0")/.." || exit 2
+python3 docs/img/crates.py --check || exit 1
 exec python3 - "$@" <<'PYTHON'
 import os
 import re
