@@ -952,7 +952,7 @@ def sites_of(text):
 
 def first_bad(rows, sites):
     """The first row that no record has in its place: its table, and its place by key from 1; None for the place where a row is
-    wanting. The tables are tested in the order in which they are made."""
+    wanting. The tables are tested in the order in which docs/FORMATS.md lists them."""
     is_site = lambda it: 0 <= it < len(sites.names)
     is_number = lambda it: 1 <= it <= LAST
     is_recall = lambda site, number: is_site(site) and is_number(number)
@@ -961,11 +961,11 @@ def first_bad(rows, sites):
         return "store", 1
     kinds, makes = {}, {}
     for place, (no, name, seconds, nanos, kind, make) in enumerate(rows["event"], 1):
-        good = no == place and (name is None or is_plain(name)) and 0 <= nanos <= 999_999_999 and abs(seconds) < 253_402_207_201 and 0 <= kind <= 3
+        good = no == place and (name is None or is_plain(name)) and 0 <= nanos <= 999_999_999 and 0 <= kind <= 3
         if not good or (make is not None and (kind != 2 or not is_plain(make))):
             return "event", place
         kinds[no], makes[no] = kind, make
-    found = first_bad_part(rows["part"], kinds, makes, sites)
+    found = first_bad_part(rows["part"], kinds, makes, sites) or first_bad_pack(rows["pack"], rows["packed"], kinds)
     if found:
         return found
     tests = [
@@ -979,7 +979,7 @@ def first_bad(rows, sites):
         for place, row in enumerate(rows[table], 1):
             if not is_good(*row):
                 return table, place
-    return first_bad_pack(rows["pack"], rows["packed"], kinds)
+    return None
 
 
 def first_bad_part(parts, kinds, makes, sites):
