@@ -1006,7 +1006,7 @@ def first_bad_part(parts, kinds, makes, sites):
 def first_bad_pack(packs, packed, kinds):
     for place, (event, action, parent) in enumerate(packs, 1):
         if kinds.get(event) != 3 or not 0 <= action <= 2 or (parent is None and action == 0) or (parent is not None and not is_key(parent)):
-            return "pack", place if all(kinds.get(it) != 3 or it in [p[0] for p in packs] for it in range(1, event)) else None
+            return "pack", place if all(kinds.get(it) != 3 or it in [p[0] for p in packs] for it in kinds if it < event) else None
     if any(kind == 3 and no not in [it[0] for it in packs] for no, kind in kinds.items()):
         return "pack", None
     seen = {}
