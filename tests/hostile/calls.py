@@ -4,7 +4,7 @@ import subprocess
 import sys
 import tempfile
 
-from chains import RECALL, SECONDS
+from chains import ANSWERS, RECALL, SECONDS
 
 # What a call may answer, by its kind; any other is failed with EIO.
 ERRORS = {
@@ -50,7 +50,7 @@ def traced(words, *flags):
 def counts(judge):
     """How often each kind of call is made by the thread that makes it most often."""
     status, out, err, log = traced(judge.words(judge.fresh()))
-    if status not in (0, 1):
+    if status not in ANSWERS:
         sys.exit(f"under strace: {status} {out!r} {err!r}")
     by = {}
     for thread, call in CALL.findall(log):

@@ -27,6 +27,8 @@ TANK_KEY = "sgtin 09521321000117 tank-7"
 TANK_SCAN = "(01)09521321000117(21)tank-7"
 CARTON = "https://id.gs1.org/01/09521321000179/21/1"
 SECONDS = float(os.environ.get("SECONDS_EACH", "60"))
+# How a command ends that answers: done, refused, or what --exit-code asks for.
+ANSWERS = (0, 1, 5)
 T = '"eventTime":"2024-05-01T08:00:00Z","eventTimeZoneOffset":"+00:00"'
 
 
@@ -301,7 +303,7 @@ class Judge:
         self.command, self.folder = command, work / f"at-{command.name}"
         done = copy(command.begin, work / f"done-{command.name}")
         self.status, self.answer, self.errors = program(*self.words(done))
-        if self.status not in (0, 1):
+        if self.status not in ANSWERS:
             sys.exit(f"{command}: {self.status} {self.answer} {self.errors}")
         self.errors = self.errors.replace(str(done).encode(), b"@")
         self.answer = self.answer.replace(str(done).encode(), b"@")
@@ -432,7 +434,7 @@ class Judge:
             if self.command.kind == "steps" and record(self.folder) != self.states[-1]:
                 return what, "answered, and not kept"
             if err != self.errors:
-                return what + " told otherwise", None if status in (0, 1) and self.errors.startswith(err) else f"told {err!r} in place of {self.errors!r}"
+                return what + " told otherwise", None if status in ANSWERS and self.errors.startswith(err) else f"told {err!r} in place of {self.errors!r}"
             return what, None
         if status == 3:
             if not fault:

@@ -8,7 +8,7 @@ import socket
 import subprocess
 import time
 
-from chains import CHAIN, RECALL, SECONDS, copy, program
+from chains import ANSWERS, CHAIN, RECALL, SECONDS, copy, program
 
 
 def limited(words, which, limit, ignore=()):
@@ -58,9 +58,9 @@ def closed(tally, judge, streams):
     kept, wrong = judge.after(0 if judge.is_run() else len(judge.states) if "1" in streams else ran.stdout.count(b"\n"))
     if "1" in streams and wrong and "lines were answered" in wrong:
         wrong = None
-    if not wrong and ran.returncode not in (0, 1, 3):
+    if not wrong and ran.returncode not in (*ANSWERS, 3):
         wrong = f"status {ran.returncode}"
-    if not wrong and ran.returncode in (0, 1) and "1" in streams and judge.answer:
+    if not wrong and ran.returncode in ANSWERS and "1" in streams and judge.answer:
         wrong = f"an answer that nobody can have read ends with {ran.returncode}"
     tally.tell(f"streams {judge.command.name} closed {streams}", f"status {ran.returncode} record {kept}", wrong)
 

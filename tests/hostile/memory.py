@@ -8,7 +8,7 @@ import os
 import re
 import sys
 
-from chains import CHAIN, program, record
+from chains import ANSWERS, CHAIN, program, record
 
 SHIMS = None
 
@@ -96,6 +96,6 @@ def shortened(tally, setting, judges, most):
     for judge, only, settings in setting.some(cases):
         status, out, err = preloaded(judge.words(judge.fresh()), "shortio.so", SHORT_ONLY=only, SHORT_STREAMS=1, **settings)
         what, wrong = judge.judge(status, out, err)
-        if not wrong and status not in (0, 1) and only == "w":
+        if not wrong and status not in ANSWERS and only == "w":
             wrong = "a short write isn't gone on with"
         tally.tell(f"short {judge.command.name} {'writes' if only == 'w' else 'reads'} {settings}", what, wrong)

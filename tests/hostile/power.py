@@ -19,7 +19,7 @@ import subprocess
 import sys
 import tempfile
 
-from chains import RECALL
+from chains import ANSWERS, RECALL
 
 LINE = re.compile(r"^(?:\d+ +)?(\w+)\((.*)\) += (-?\d+|0x[0-9a-f]+)(?:<[^ ]*>)?(?: .*)?$")
 FD = re.compile(r"^(\d+)<((?:[^>\\]|\\.)*)>")
@@ -54,7 +54,7 @@ def calls_of(words, folder):
     found, made = [], {it.name for it in folder.iterdir()}
     with tempfile.NamedTemporaryFile("r", errors="replace") as log:
         ran = subprocess.run(["strace", "-f", "-qq", "-y", "-xx", "-s", "100000000", "-o", log.name, "-e", f"trace={KINDS}", RECALL, *map(str, words)], stdin=subprocess.DEVNULL, capture_output=True)
-        if ran.returncode not in (0, 1):
+        if ran.returncode not in ANSWERS:
             sys.exit(f"under strace: {ran}")
         text = log.read()
 
