@@ -41,6 +41,7 @@ pub mod PairTestsDecide
 pub mod PartMembers
 pub mod PlaceLists
 pub mod PlaceSteps
+pub mod ReachFrom
 pub mod ReachSteps
 pub mod RelatedPlaces
 pub mod SeenSteps

@@ -1,7 +1,6 @@
 -- What several sites relate a node's pair to, and what is reached from a pair.
 use Rattle.std.proofs.Common.{◌≡◌, ◌<◌, ◌≤◌, ◌+◌, ℕ, true, List, [], ◌∷◌, ◌++◌, Option, None, Some, length, slice_get, ◌↔◌, refl, sym, ap, ◌∙◌, subst, inl, inr, ⊎_elim, arith}
 use mathlib.Core.Bool.{false≢true}
-use mathlib.Core.Logic.{◌⊎◌}
 use Rattle.std.specs.BTreeSet.{BTreeSet}
 use Rattle.std.specs.List.{Contains}
 use Rattle.std.proofs.lemmas.Bool.{cases_eq, cases_lt}
@@ -13,15 +12,13 @@ use Rattle.trace_core.specs.declared.nodes.Node.{Node}
 use Rattle.trace_core.specs.declared.pairs.Pair.{Pair}
 use Rattle.trace_core.specs.Chains.{Related, RelatesFrom}
 use Rattle.trace_core.specs.Groups.{IsGiven, IsGivenBy, SeesOnly, IsSought}
-use Rattle.trace_core.specs.Nodes.{Stands, Had, Gains, ReachedFromNodes}
+use Rattle.trace_core.specs.Nodes.{Stands, Had, Gains}
 use Rattle.trace_core.specs.Numbers.{number_in, numbered}
 use Rattle.trace_core.specs.Pairs.{IsRelated}
 use Rattle.trace_core.specs.Places.{names_item}
-use Rattle.trace_core.specs.Relations.{Reaches}
 use Rattle.trace_core.specs.Searches.{AreUnseen}
 use Rattle.trace_core.specs.Sites.{SiteEvents}
 use Rattle.trace_core.specs.Spreads.{items_of}
-use Rattle.trace_core.proofs.ChainLaws.{reaches_itself, reaches_step, reached_holds}
 use Rattle.trace_core.proofs.GroupSteps.{adds_same}
 use Rattle.trace_core.proofs.Members.{contains_none, contains_cases, list_any_member}
 use Rattle.trace_core.proofs.NodeSteps.{more_nodes, gains_none, gains_retold}
@@ -149,66 +146,13 @@ module _ (sites : List SiteEvents) where
       λ (s, at, item, place). (so_far n).1 ((s, at, item, place), omega (arith, past, slice_get_within sites n.site s at)),
     )
 
-    -- the pairs of nodes, and the root
-    abbrev pub HasRoot : List Pair → List Node → Type 0
-    HasRoot pairs nodes = (p : Pair) → Contains pairs p ↔ ((p ≡ root) ⊎ ((n : Node) × Contains nodes n × Stands sites n p))
-
-    -- the root is added where no node stands for it
-    pub root_added : (pairs pairs' : List Pair) (nodes : List Node) (copy : Pair) → ((p : Pair) → Contains pairs p ↔ ((n : Node) × Contains nodes n × Stands sites n p)) → pairs' ≡ pairs ++ copy ∷ [] → copy ≡ root → HasRoot pairs' nodes
-    root_added pairs pairs' nodes copy are pushed same p =
-        let both = contains_pushed pairs copy p in (
-          λ h. ⊎_elim (λ before. inr ((are p).0 before)) (λ is. inl (sym is ∙ same)) (both.0 (subst (λ ps. Contains ps p) pushed h)),
-          λ h. subst (λ ps. Contains ps p) (sym pushed) (both.1 (⊎_elim (λ is. inr (same ∙ sym is)) (λ from. inl ((are p).1 from)) h)),
-        )
-
-    -- where one does, it is there
-    pub root_there : (pairs : List Pair) (starts list : List Node) (nodes : List Node) → ((p : Pair) → Contains pairs p ↔ ((n : Node) × Contains list n × Stands sites n p)) → ((n : Node) → Contains starts n ↔ Stands sites n root)
-        → ((q : Pair) → Had (Stands sites) nodes q ↔ ReachedFromNodes (Stands sites) (Related sites) starts q) → list ≡ nodes → (length starts ≡ 0 → ⊥) → HasRoot pairs list
-    root_there pairs starts list nodes are begin reached same some p = (
-      λ h. inr ((are p).0 h),
-      λ h. ⊎_elim
-          (λ is.
-          let (n, start) = some_member starts some in
-          let (m, found, stands) = (reached root).1 (n, root, start, (begin n).0 start, reaches_itself (Related sites) root) in
-          (are p).1 (m, subst (λ ns. Contains ns m) (sym same) found, subst (Stands sites m) (sym is) stands))
-          (λ from. (are p).1 from)
-          h,
-    )
-      where
-        some_member : (xs : List Node) → (length xs ≡ 0 → ⊥) → (n : Node) × Contains xs n
-        some_member [] none = absurd (none refl)
-        some_member (x ∷ xs) none = (x, (0, omega arith, refl))
-
     -- where it is related to anything, it has a node
-    root_node : (q : Pair) → Related sites root q → (n : Node) × Stands sites n root
+    pub root_node : (q : Pair) → Related sites root q → (n : Node) × Stands sites n root
     root_node q (k, s, below, at, (own, related)) = numbered_by (number_in (numbered s.events) root.item) refl
       where
         numbered_by : (o : Option ℕ) → number_in (numbered s.events) root.item ≡ o → (n : Node) × Stands sites n root
         numbered_by None unknown = absurd (unrelated s root.item unknown q related)
         numbered_by (Some m) known = (record { site = k; item = m; at = root.site }, (s, slice_get-get_or sites k s below ∙ ap Some at, number_stands (numbered s.events) root.item m known, refl))
-
-    -- the root and the pairs that the found nodes stand for are what is reached
-    pub reach_exact : (starts list : List Node) (nodes : List Node) (pairs : List Pair) → ((n : Node) → Contains starts n ↔ Stands sites n root) → ((q : Pair) → Had (Stands sites) nodes q ↔ ReachedFromNodes (Stands sites) (Related sites) starts q)
-        → list ≡ nodes → HasRoot pairs list → (p : Pair) → Contains pairs p ↔ Reaches (Related sites) root p
-    reach_exact starts list nodes pairs are reached same pairs_are p =
-        let R = Related sites in
-        let closed : (y z : Pair) → (y ≡ root) ⊎ Had (Stands sites) nodes y → R y z → (z ≡ root) ⊎ Had (Stands sites) nodes z = λ y z h r. ⊎_elim
-        (λ is.
-        let (n, stands) = root_node z (subst (λ (x : Pair). R x z) is r) in
-        inr ((reached z).1 (n, root, (are n).1 stands, stands, reaches_step R root root z (reaches_itself R root) (subst (λ (x : Pair). R x z) is r))))
-        (λ had. let (n, s, start, stands, reaches) = (reached y).0 had in inr ((reached z).1 (n, s, start, stands, reaches_step R s y z reaches r)))
-        h in (
-          λ h. ⊎_elim
-              (λ is. subst (Reaches R root) (sym is) (reaches_itself R root))
-              (λ (n, there, stands).
-              let (m, s, start, stood, reaches) = (reached p).0 (n, subst (λ ns. Contains ns n) same there, stands) in
-              subst (λ x. Reaches R x p) (one_stands m s root stood ((are m).0 start)) reaches)
-              ((pairs_are p).0 h),
-          λ reaches. (pairs_are p).1 (⊎_elim
-              (λ is. inl is)
-              (λ (n, found, stands). inr (n, subst (λ ns. Contains ns n) (sym same) found, stands))
-              (reached_holds R (λ q. (q ≡ root) ⊎ Had (Stands sites) nodes q) closed root p reaches (inl refl))),
-        )
 
 pub some_site : (sites : List SiteEvents) (n : ℕ) → n < length sites → (s : SiteEvents) × (slice_get sites n ≡ Some s)
 some_site sites n below = ⊎_elim

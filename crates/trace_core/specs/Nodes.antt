@@ -21,6 +21,10 @@ Stands sites n q = (s : SiteEvents) × (slice_get sites n.site ≡ Some s) × (s
 abbrev pub Had : (Node → Pair → Type 0) → List Node → Pair → Type 0
 Had S nodes q = (n : Node) × Contains nodes n × S n q
 
+-- it stands for one of the pairs
+abbrev pub StandsForOne : List SiteEvents → List Pair → Node → Type 0
+StandsForOne sites pairs n = (p : Pair) × Contains pairs p × Stands sites n p
+
 -- no node comes twice
 abbrev pub AreOnce : List Node → Type 0
 AreOnce nodes = AllPairs (λ m n. m ≢ n) nodes

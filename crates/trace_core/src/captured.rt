@@ -136,6 +136,9 @@ impl Captured {
     /// `IdTaken` at the first event whose eventID stands with other content, and `NoMemory`. Nothing
     /// is changed then.
     pub fn add(&mut self, events: Sequence<Event>) -> Result<Added, AddFault>
+        // A document is captured whole, with its numbers of new and known events; or the place of the first event whose
+        // eventID is taken is returned, and nothing changes.
+        // Not covered: what adding one event leaves (`with_fresh`) has no law.
         ensures ok { IfOk result (λ added. adding self.old.events events
             ≡ Ok (record { events = self.new.events; fresh = added.fresh; known = added.known })) }
         ensures fault { IfErr result (λ fault. FaultOf (adding self.old.events events) fault) }
@@ -156,6 +159,7 @@ impl Captured {
     /// each other site that it was shipped to, and at this site each output of a transformation that
     /// took it in, or of one with the same transformationID (GS1 EPCIS 2.0, section 7.4).
     pub fn related(&self, item: &Epc) -> Result<Vec<Pair>, AllocError>
+        // Not covered: the order of pairs (`pair_cmp`) stands by its own words.
         ensures ascending { IfOk result (λ pairs. IsStrictlyAscending pairs.items) }
         ensures exact { IfOk result (λ pairs. (p : Pair) → Contains pairs.items p
             ↔ IsRelated self.now item.now p) }
@@ -171,6 +175,7 @@ impl Captured {
     /// The pairs at other sites that an item at this site is related to, ascending and without repeats:
     /// the item at each other site that it was shipped to.
     pub fn shipped(&self, item: &Epc) -> Result<Vec<Pair>, AllocError>
+        // Not covered: what it costs.
         ensures ascending { IfOk result (λ pairs. IsStrictlyAscending pairs.items) }
         ensures exact { IfOk result (λ pairs. (p : Pair)
             → Contains pairs.items p ↔ IsShipped self.now item.now p) }
@@ -213,6 +218,7 @@ impl Captured {
     /// What the last event sent that wasn't sent before it, none where there is no event: the numbers of the items that
     /// it ships, or puts into what was sent somewhere, and of all that lies in them, each with a site.
     pub fn last_sent(&self) -> &[Sending]
+        // Not covered: that an event costs what it newly sends; in which order, and that none is told twice.
         ensures new { (before : List Content) (e : Content) → self.now.events ≡ before ++ e ∷ []
             → AreNewlySent (numbered self.now.events) before e result.now }
         ensures none { self.now.events ≡ [] → result.now ≡ [] }

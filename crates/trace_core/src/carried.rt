@@ -20,6 +20,7 @@ impl Captured {
     /// # Errors
     /// Out of memory.
     pub fn carried_with(&self, items: &[Epc]) -> Result<Vec<Epc>, AllocError>
+        // Not covered: what it costs.
         ensures ascending { IfOk result (λ found. AreAscendingItems found.items) }
         ensures exact { IfOk result (λ found. (j : List ℕ)
             → Contains found.items j ↔ ReachedFrom (Carries self.now.events) items.now j) }

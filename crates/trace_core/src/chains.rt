@@ -4,10 +4,10 @@ ghost use Rattle.trace_core.specs.declared.nodes.Node.{Node};
 ghost use Rattle.trace_core.specs.declared.pairs.Pair.{Pair};
 ghost use Rattle.trace_core.specs.Chains.{Related, RelatesFrom, sites_at};
 ghost use Rattle.trace_core.specs.Groups.{IsGiven, SeesOnly};
-ghost use Rattle.trace_core.specs.Nodes.{Stands, Gains};
+ghost use Rattle.trace_core.specs.Nodes.{Stands, StandsForOne, Gains};
 ghost use Rattle.trace_core.specs.Numbers.{number_in, numbered};
 ghost use Rattle.trace_core.specs.Pairs.{IsStrictlyAscending};
-ghost use Rattle.trace_core.specs.Relations.{Reaches};
+ghost use Rattle.trace_core.specs.Relations.{ReachedFrom, Reaches};
 ghost use Rattle.trace_core.specs.Sites.{SiteEvents};
 
 use crate::batches::pairs_of;
@@ -123,18 +123,68 @@ fn item_of<'a>(sites: &[&'a Captured], node: &Node) -> Option<&'a Epc>
 /// any of the given sites that has that number. A pair at a site that isn't among them leads no
 /// further.
 pub fn reach(alloc: Global, sites: &[&Captured], root: &Pair) -> Result<Vec<Pair>, AllocError>
+    // Not covered: what it costs.
     ensures ascending { IfOk result (λ pairs. IsStrictlyAscending pairs.items) }
     ensures reached { IfOk result (λ pairs. (p : Pair) → Contains pairs.items p
         ↔ Reaches (Related (sites_at sites.now)) root.now p) }
 {
+    reach_from(alloc, sites, std::slice::from_ref(root))
+}
+
+/// All that chains of related pairs reach from some pairs, these among them, as [`reach`] says it of one. One search
+/// finds it for all of them.
+///
+/// # Errors
+/// Out of memory.
+pub fn reach_from(
+    alloc: Global,
+    sites: &[&Captured],
+    roots: &[Pair],
+) -> Result<Vec<Pair>, AllocError>
+    ensures ascending { IfOk result (λ pairs. IsStrictlyAscending pairs.items) }
+    ensures reached { IfOk result (λ pairs. (p : Pair) → Contains pairs.items p
+        ↔ ReachedFrom (Related (sites_at sites.now)) roots.now p) }
+{
     let mut looks = 0;
-    let starts = nodes_of(alloc, sites, root)?;
+    let starts = nodes_of_all(alloc, sites, roots)?;
     let nodes = closure(alloc, &RelatedPairs { sites }, &starts, &mut looks)?;
     let mut pairs = pairs_of(alloc, sites, &nodes)?;
-    if starts.is_empty() {
+    push_roots(alloc, roots, &mut pairs)?;
+    in_order(pairs)
+}
+
+/// The nodes that stand for one of some pairs.
+fn nodes_of_all(alloc: Global, sites: &[&Captured], pairs: &[Pair]) -> Result<Vec<Node>, AllocError>
+    ensures { IfOk result (λ nodes. (n : Node) → Contains nodes.items n
+        ↔ StandsForOne (sites_at sites.now) pairs.now n) }
+{
+    let mut nodes = Vec::new(alloc);
+    for pair in pairs {
+        push_all(&nodes_of(alloc, sites, pair)?, &mut nodes)?;
+    }
+    Ok(nodes)
+}
+
+/// Adds nodes to others.
+fn push_all(more: &[Node], nodes: &mut Vec<Node>) -> Result<(), AllocError>
+    ensures { OnOk result ((n : Node) → Contains nodes.new.items n
+        ↔ (Contains nodes.old.items n ⊎ Contains more.now n)) }
+{
+    for node in more {
+        nodes.push(*node)?;
+    }
+    Ok(())
+}
+
+/// Adds copies of some pairs to others.
+fn push_roots(alloc: Global, roots: &[Pair], pairs: &mut Vec<Pair>) -> Result<(), AllocError>
+    ensures { OnOk result ((p : Pair) → Contains pairs.new.items p
+        ↔ (Contains pairs.old.items p ⊎ Contains roots.now p)) }
+{
+    for root in roots {
         pairs.push(root.copy(alloc)?)?;
     }
-    in_order(pairs)
+    Ok(())
 }
 
 /// The nodes that stand for a pair: one for each site that knows its item.

@@ -120,7 +120,7 @@ fn know_packed(
 }
 
 /// Gives the items of the event at a place numbers and notes its inputs. Returns the numbers of the items that it
-/// ships, makes or tells of as children. After an `Err` some of that is done.
+/// ships, makes or names as children. After an `Err` some of that is done.
 fn note_some_of(
     alloc: Global,
     known: &mut Items,
@@ -148,7 +148,7 @@ fn note_some_of(
 }
 
 /// Gives the items of the event at a place numbers and notes its inputs. Returns the numbers of the items that it
-/// ships, makes or tells of as children. After an `Err` none is noted, and no item is new.
+/// ships, makes or names as children. After an `Err` none is noted, and no item is new.
 pub fn note_items_of(
     alloc: Global,
     known: &mut Items,
@@ -206,7 +206,7 @@ pub fn parent_number(known: &Items, body: &Body) -> Option<usize>
     }
 }
 
-/// How many items an event ships, makes or tells of as children.
+/// How many items an event ships, makes or names as children.
 pub fn moved_count(body: &Body) -> usize
     ensures { result ≡ length (moved_in body.now) }
 {

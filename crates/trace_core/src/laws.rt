@@ -134,6 +134,11 @@ pub fn pairs_are_in_order()
 
 /// What a wider reach misses.
 pub fn gaps_are_told()
+    // An item that is widely reached, by the packings that came with the goods, is reached or missed on the way, and
+    // what is missed lies in a gap; where no gap is touched, nothing is missed by packing, nor outside the traced
+    // sites.
+    // Not covered: containers that were packed at a site from which they never came; the contents of a container that
+    // is recalled by its own label.
     ensures own { OwnIsNarrow }
     ensures between { WideIsBetween }
     ensures misses { GapsAreMisses }
@@ -143,6 +148,9 @@ pub fn gaps_are_told()
 
 /// Capturing packings that are known closes gaps, and opens none.
 pub fn gaps_are_closed()
+    // To capture packings that are known closes gaps, opens none, and leaves what is known as it is; where each site
+    // captured what closes its gaps, its reach is the wide one from each root. Whatever really lay in something,
+    // captured in whatever order, is known.
     ensures source { KnownIsCapturedSomewhere }
     ensures stays { KnownStays }
     ensures fewer { GapsOnlyClose }

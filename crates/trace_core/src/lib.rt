@@ -45,7 +45,7 @@ mod visits;
 pub use adding::{AddFault, Added, Standing};
 pub use adjacency::Adjacency;
 pub use captured::Captured;
-pub use chains::reach;
+pub use chains::{reach, reach_from};
 pub use ordered_keys::{in_order, keys_in_order};
 pub use pairs::Pair;
 pub use seen::Seen;

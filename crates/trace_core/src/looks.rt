@@ -11,7 +11,7 @@ pub fn count_look(looks: &mut u64)
     }
 }
 
-/// Counts so many looks. At 2^64 - 1 the count stays.
+/// Counts `more` looks. At 2^64 - 1 the count stays.
 pub fn count_looks(looks: &mut u64, more: usize)
     ensures counted { looks.new ≡ more_looks more looks.old }
     ensures each { LooksAtEach more looks.old looks.new }

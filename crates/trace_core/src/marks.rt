@@ -58,7 +58,7 @@ impl Marks {
         }
     }
 
-    /// Marks a number, where there are so many in all. Tells whether it is new. An `Err` changes nothing.
+    /// Marks a number, of `all` that there are, and returns whether it is new. An `Err` changes nothing.
     pub fn mark(&mut self, alloc: Global, number: usize, all: usize) -> Result<bool, AllocError>
         ensures marked { OnOk result ((n : ℕ) → Contains self.new n
             ↔ (Contains self.old n ⊎ (number ≡ n))) }

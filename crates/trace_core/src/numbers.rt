@@ -44,7 +44,7 @@ impl Numbers {
         Ok(())
     }
 
-    /// Makes room for so many more.
+    /// Makes room for `more` of them.
     pub fn reserve(&mut self, more: usize) -> Result<(), AllocError>
         ensures { self.new ≡ self.old }
     {

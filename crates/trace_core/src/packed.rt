@@ -68,7 +68,7 @@ impl Packed {
         Ok(())
     }
 
-    /// Takes away the last so many that were put into a parent, if there is one. Does not allocate.
+    /// Takes away the last `count` that were put into a parent, if there is one. Does not allocate.
     pub fn forget(&mut self, parent: Option<usize>, count: usize)
         ensures { (n : ℕ) → children_in self.new n
             ≡ take (length (children_in self.old n) - cut_at parent count n)

@@ -45,7 +45,7 @@ impl Seen {
         false
     }
 
-    /// A transformation of a site that has so many events is seen now. Tells whether it is new.
+    /// Marks a transformation of a site with `all` events as seen, and returns whether it is new.
     pub fn see(&mut self, site: usize, first: usize, all: usize) -> Result<bool, AllocError>
         ensures seen { OnOk result (Sees self.old self.new (record {
           site = site;

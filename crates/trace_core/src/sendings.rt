@@ -201,7 +201,7 @@ impl Sent {
         }
     }
 
-    /// Leaves the first so many alone. Does not allocate.
+    /// Keeps the first `kept` alone. Does not allocate.
     pub fn truncate(&mut self, kept: usize)
         ensures { self.new ≡ take kept self.old }
     {

@@ -31,6 +31,7 @@ impl Captured {
     /// The given items, and all that chains of related pairs reach from them inside this site,
     /// ascending and without repeats.
     pub fn spread(&self, items: &[Epc]) -> Result<Vec<Epc>, AllocError>
+        // Not covered: no law of its own: it is one sentence over related pairs.
         ensures ascending { IfOk result (λ found. AreAscendingItems found.items) }
         ensures exact { IfOk result (λ found. (j : List ℕ) → Contains found.items j
             ↔ IsSpread self.now items.now j) }
@@ -46,6 +47,10 @@ impl Captured {
         ensures ascending { IfOk result (λ counted. AreAscendingItems counted.0.items) }
         ensures exact { IfOk result (λ counted. (j : List ℕ) → Contains counted.0.items j
             ↔ IsSpread self.now items.now j) }
+        // There is a look for each item found and for each output of the transformations that they go into, where the
+        // count didn't end at 2^64 - 1; and at most one for each item given or known and for each output of a
+        // transformation.
+        // Not covered: a body that reads more than it counts, and counts the right number.
         ensures looks { IfOk result (λ counted.
             AreLooks self.now items.now counted.0.items counted.1) }
     {

@@ -129,6 +129,7 @@ impl Trails {
 
     /// The trail at a place, from 0: None within where none leads to the pair.
     pub fn get(&self, place: usize) -> Option<Option<Trail<'_>>>
+        // Not covered: what it takes.
         ensures { result ≡ slice_get self.now place }
     {
         match self.ends.get(place) {

@@ -56,6 +56,7 @@ pub fn trail(
     root: &Pair,
     target: &Pair,
 ) -> Result<Option<Sequence<Pair>>, AllocError>
+    // Not covered: that one search is made for all pairs.
     ensures { IfOk result (TellsTrail (sites_at sites.now) root.now target.now) }
 {
     let steps = steps_from(alloc, &Targets { sites }, root)?;
@@ -94,6 +95,7 @@ pub fn trails_out(
     sites: &[&Captured],
     root: &Pair,
 ) -> Result<FoundTrails, AllocError>
+    // Not covered: that a search comes to each transformation once.
     ensures { IfOk result (AreAllFound (Related (sites_at sites.now)) root.now) }
 {
     trails_from(alloc, &Targets { sites }, root)
