@@ -12,6 +12,7 @@ use Rattle.recall_outcomes.specs.declared.outcomes.Outcome.{Outcome}
 use Rattle.recall_outcomes.specs.declared.outcomes.Outcome.TheVariants.{Gaps}
 use Rattle.site_core.specs.Records.{Record}
 use Rattle.site_recovery.specs.Laws.{captured_of}
+use Rattle.trace_core.specs.Pairs.{IsStrictlyAscending}
 use Rattle.trace_core.specs.Sites.{SiteEvents}
 use Rattle.trace_core.specs.declared.pairs.Pair.{Pair}
 
@@ -28,9 +29,9 @@ abbrev pub AnswersGaps : List Record → Bool → Outcome → Type 0
 AnswersGaps records coded (Gaps gaps told) = (told ≡ coded) × AreGapsOf (captured_of records) gaps
 AnswersGaps records coded other = ⊥
 
--- of the pairs just those are noted that are missed, and where there is none, nothing
+-- of the pairs just those are noted that are missed, in order and each once, and where there is none, nothing
 abbrev pub NotesMissed : List Record → List Pair → Notes → Type 0
 NotesMissed records pairs Nothing = (p : Pair) → Contains pairs p → IsMissedPair (captured_of records) p → ⊥
 NotesMissed records pairs (Missed found) =
-    (found.items ≢ []) × ((p : Pair) → Contains found.items p ↔ (Contains pairs p × IsMissedPair (captured_of records) p))
+    (found.items ≢ []) × IsStrictlyAscending found.items × ((p : Pair) → Contains found.items p ↔ (Contains pairs p × IsMissedPair (captured_of records) p))
 NotesMissed records pairs other = ⊥

@@ -34,6 +34,9 @@ impl Question for Audit {
 
     ghost asks = { λ q sites asked. ⊤ };
 
+    // The condition and the site of inconsistent records; or that they are consistent, with each recall that a site
+    // began, one for one and in order: that it is open, or the verdict on it; and noted beside that, where there is
+    // any, each site that takes part in a recall without a message of it.
     ghost answers = { λ q asked rs told. AnswersAudit rs told.0 told.1 };
 
     fn read(

@@ -35,6 +35,7 @@ impl SiteQuestion for DryStart<'_> {
 
     ghost asks = { λ q sites site item. AsksItem q.site.now q.item sites site item };
 
+    // What the start of a recall of the item would do at the site.
     ghost answers = { λ q item r outcome. AnswersDryStart r (Start item) outcome };
 
     fn read(

@@ -33,6 +33,8 @@ impl Question for GapsOf {
 
     ghost asks = { λ q sites asked. ⊤ };
 
+    // The gaps of what the records have captured: packed ones by container with how many items, used ones, unseen ones,
+    // all of them and no others, in order.
     ghost answers = { λ q asked rs outcome. AnswersGaps rs q.coded outcome };
 
     fn read(&self, _alloc: Global, _sites: &Sites) -> Result<Result<(), Outcome>, AllocError> {

@@ -18,7 +18,7 @@ use std::alloc::{AllocError, Global};
 const MAX_ENDINGS: usize = 5;
 
 /// Which sites know an item that the site of a name doesn't know, and which items of that site end in the text that was
-/// given for it: at most five. Nothing is told of a site that isn't listed, or of a text that spells no item.
+/// given for it: at most five. There is no answer for a site that isn't listed, or for a text that spells no item.
 #[derive(Drop)]
 pub struct KnowersOf<'a> {
     pub site: &'a str,
@@ -37,6 +37,8 @@ impl Question for KnowersOf<'_> {
 
     ghost asks = { λ q sites asked. AsksItem q.site.now q.item sites asked.0 asked.1 };
 
+    // Of an item that a site doesn't know: which sites know it, and in the place of the site itself the first five of
+    // its items that end in the text, by key.
     ghost answers = { λ q asked rs notes.
         AnswersKnowers asked.0 asked.1 q.item.text.now rs notes };
 

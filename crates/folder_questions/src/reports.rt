@@ -40,6 +40,9 @@ impl Question for ReportOf<'_> {
 
     ghost asks = { λ q sites recall. AsksRecall q.recall.now sites recall };
 
+    // The recall's report, where it is asked for with the events behind the steps that are told, and `UnknownRecall`
+    // exactly where no site began the recall; and noted beside it, where there are any, just those of its pairs that
+    // are missed.
     ghost answers = { λ q recall rs told.
         AnswersReport rs recall q.ways q.events told.0 told.1 };
 

@@ -30,6 +30,7 @@ impl SiteQuestion for ItemsOf<'_> {
 
     ghost asks = { λ q sites site asked. named sites q.site.now ≡ Some site };
 
+    // Which items the site knows whose keys contain the text.
     ghost answers = { λ q asked r outcome. AnswersItems q.text.now r outcome };
 
     fn read(

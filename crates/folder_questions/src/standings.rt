@@ -28,6 +28,7 @@ impl Question for Statuses {
 
     ghost asks = { λ q sites asked. ⊤ };
 
+    // How the recalls stand.
     ghost answers = { λ q asked rs outcome. AnswersRecalls rs q.coded outcome };
 
     fn read(&self, _alloc: Global, _sites: &Sites) -> Result<Result<(), Outcome>, AllocError> {
@@ -67,6 +68,7 @@ impl Question for StatusOf<'_> {
 
     ghost asks = { λ q sites recall. AsksRecall q.recall.now sites recall };
 
+    // How the recall stands, and what it waits for.
     ghost answers = { λ q recall rs outcome. AnswersRecall rs recall q.coded outcome };
 
     fn read(&self, alloc: Global, sites: &Sites) -> Result<Result<RecallId, Outcome>, AllocError> {

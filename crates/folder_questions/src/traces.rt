@@ -49,6 +49,8 @@ impl Question for TraceOf<'_> {
 
     ghost asks = { λ q sites asked. AsksItem q.site.now q.item sites asked.0 asked.1 };
 
+    // A trace of the item, forward or back, or `UnknownItem` exactly where the site doesn't know it; and noted beside a
+    // trace forward, where there are any, just those of its pairs that are missed.
     ghost answers = { λ q asked rs told.
         AnswersTrace rs asked.0 asked.1 q.back q.ways q.events told.0 told.1 };
 

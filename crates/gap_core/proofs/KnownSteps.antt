@@ -17,7 +17,7 @@ use Rattle.gap_core.specs.declared.sources.Source.{Source}
 use Rattle.gap_core.proofs.Notings.{placed, stands_in}
 
 -- a packing fills its parent
-fills : (p c : List ℕ) (b : Body) → Packs p c b → filled b ≡ Some p
+pub fills : (p c : List ℕ) (b : Body) → Packs p c b → filled b ≡ Some p
 fills p c (Note items) h = absurd h
 fills p c (Ship items sites outside) h = absurd h
 fills p c (Make id ins outs) h = absurd h

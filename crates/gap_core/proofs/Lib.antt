@@ -1,12 +1,16 @@
 pub mod Additions
 pub mod BatchSteps
+pub mod EdgeLists
 pub mod EventsInTurn
 pub mod GapSteps
 pub mod KnownSteps
+pub mod LeastSources
 pub mod LineSteps
 pub mod MissedReach
 pub mod MissedSteps
 pub mod Notings
+pub mod PackClosing
+pub mod PackSteps
 pub mod PackerSteps
 pub mod PlaceLists
 pub mod ShippedItems

@@ -2,9 +2,11 @@ pub mod Adding
 pub mod Batches
 pub mod GapItems
 pub mod GapLines
+pub mod GapPacks
 pub mod Laws
 pub mod Lines
 pub mod Missed
+pub mod PackLaws
 pub mod Packers
 pub mod Searches
 pub mod Shipments

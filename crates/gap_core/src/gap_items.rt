@@ -13,8 +13,8 @@ use event_json::SiteNo;
 use std::alloc::{AllocError, Global};
 use trace_core::{Captured, in_order};
 
-/// An item that stands in a packed gap: a site shipped it in a container, and neither that it lies in it nor that it
-/// went there is told by the site's own packings.
+/// An item in a packed gap: a site shipped it in a container, and the site's own packings say neither that it lies
+/// there nor that it went there.
 #[derive(Debug, Drop, PartialEq, Eq, PartialOrd, Ord)]
 pub struct GapItem {
     /// The site that shipped it.
@@ -33,6 +33,8 @@ pub struct GapItem {
 /// # Errors
 /// Out of memory.
 pub fn items_in_gaps(alloc: Global, sites: &[&Captured]) -> Result<Vec<GapItem>, AllocError>
+    // All items that stand in a packed gap for a shipment to another site or to a place outside, each once for its
+    // container and with the least site that packed it and from which the container came; in order.
     ensures ascending { IfOk result (λ items. IsStrictlySortedBy gap_item_cmp items.items) }
     ensures exact { IfOk result (λ items. (g : GapItem) → Contains items.items g
         ↔ IsGapChild (sites_at sites.now) g.site g.by g.container g.child) }

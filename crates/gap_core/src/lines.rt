@@ -36,7 +36,7 @@ pub struct Gaps {
     pub items: usize,
 }
 
-/// Finds the packed gaps of several sites. Where two of them have one number, their gaps are told together.
+/// Finds the packed gaps of several sites. Where two of them have one number, their gaps are reported together.
 ///
 /// # Errors
 /// Out of memory.
@@ -53,11 +53,13 @@ pub fn packed_gaps(alloc: Global, sites: &[&Captured]) -> Result<Gaps, AllocErro
 }
 
 /// Finds the containers that several sites took into transformations without what lies in them, by what is known of
-/// packings. Where two of the sites have one number, their gaps are told together.
+/// packings. Where two of the sites have one number, their gaps are reported together.
 ///
 /// # Errors
 /// Out of memory.
 pub fn used_gaps(alloc: Global, sites: &[&Captured]) -> Result<Vec<GapLine>, AllocError>
+    // All containers that a site took into a transformation, by one of its parts, and in which items are known to lie
+    // that no part takes in, with how many such items each has; in order, each once.
     ensures { IfOk result (λ lines. AreUsedLines (sites_at sites.now) lines.items) }
 {
     let items = used_items(alloc, sites)?;

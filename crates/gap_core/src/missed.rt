@@ -19,9 +19,9 @@ use std::alloc::{AllocError, Global};
 use std::collections::BTreeMap;
 use trace_core::{Captured, Pair, in_order};
 
-/// All items that sites sent to other places, by what is known at them, while their own packings don't tell that: each
-/// as a pair with the site that sent it, ascending and without repeats. A recall that reaches such a pair misses where
-/// it went.
+/// All items that sites sent to other places, by what is known at them, while their own packings don't say so: each as
+/// a pair with the site that sent it, ascending and without repeats. A recall that reaches such a pair misses where it
+/// went.
 ///
 /// # Errors
 /// Out of memory.

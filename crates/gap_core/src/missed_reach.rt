@@ -2,7 +2,7 @@
 ghost use Rattle.std.specs.Prelude.{◌↔◌, IfOk, OnOk, Contains};
 ghost use Rattle.trace_core.specs.declared.pairs.Pair.{Pair};
 ghost use Rattle.trace_core.specs.Chains.{sites_at};
-ghost use Rattle.trace_core.specs.Pairs.{pair_cmp};
+ghost use Rattle.trace_core.specs.Pairs.{IsStrictlyAscending, pair_cmp};
 ghost use Rattle.trace_core.specs.Searches.{IsFound};
 ghost use Rattle.gap_core.specs.Adding.{AddsToList};
 ghost use Rattle.gap_core.specs.Missed.{IsMissedPair, IsPairFound};
@@ -10,11 +10,11 @@ ghost use Rattle.gap_core.specs.Missed.{IsMissedPair, IsPairFound};
 use crate::missed::missed_pairs;
 use std::alloc::{AllocError, Global};
 use std::collections::BTreeSet;
-use trace_core::{Captured, Pair};
+use trace_core::{Captured, Pair, in_order};
 
-/// Those of some pairs that are missed, in their order: a site sent the item on with something that others packed, and
-/// its own packings don't tell that. Where none of the pairs that a root reaches is, its reach misses nothing by packing
-/// ([`laws::nothing_missed_misses_nothing`](crate::laws::nothing_missed_misses_nothing)).
+/// Those of some pairs that are missed, by site and item, each once: a site sent the item on with something that others
+/// packed, and its own packings don't say so. Where none of the pairs that a root reaches is, its reach misses nothing
+/// by packing ([`laws::nothing_missed_misses_nothing`](crate::laws::nothing_missed_misses_nothing)).
 ///
 /// # Errors
 /// Out of memory.
@@ -23,7 +23,8 @@ pub fn missed_among(
     sites: &[&Captured],
     pairs: &[Pair],
 ) -> Result<Vec<Pair>, AllocError>
-    ensures { IfOk result (λ found. (p : Pair) → Contains found.items p
+    ensures ascending { IfOk result (λ found. IsStrictlyAscending found.items) }
+    ensures exact { IfOk result (λ found. (p : Pair) → Contains found.items p
         ↔ (Contains pairs.now p × IsMissedPair (sites_at sites.now) p)) }
 {
     let missed = set_of(alloc, missed_pairs(alloc, sites)?)?;
@@ -31,7 +32,7 @@ pub fn missed_among(
     for pair in pairs {
         note_if(alloc, &missed, pair, &mut found)?;
     }
-    Ok(found)
+    in_order(found)
 }
 
 /// Pairs as a set.

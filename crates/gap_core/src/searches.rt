@@ -19,8 +19,8 @@ use std::collections::BTreeMap;
 use trace_core::Captured;
 
 /// For each container the sites that packed something into it, each with the sites at which that is known: with itself,
-/// and with those to which the container came from there, over however many sites. Sites are told by their places among
-/// the given ones.
+/// and with those to which the container came from there, over however many sites. Sites are named by their places
+/// among the given ones.
 ///
 /// # Errors
 /// Out of memory.
@@ -28,6 +28,7 @@ pub fn known_packings(
     alloc: Global,
     sites: &[&Captured],
 ) -> Result<BTreeMap<Epc, Sources>, AllocError>
+    // Not covered: how many visits of sites it takes.
     ensures { IfOk result (AreKnown (sites_at sites.now)) }
 {
     let mut index = own_packings(alloc, sites)?;

@@ -9,7 +9,7 @@ use std::alloc::{AllocError, Global};
 use std::collections::BTreeMap;
 use std::marker::Model;
 
-/// What one site packed into a container is known at another one, or at the same. Sites are told by their places among
+/// What one site packed into a container is known at another one, or at the same. Sites are named by their places among
 /// those that are looked at.
 #[derive(Clone, Copy, Debug, PartialEq, Eq)]
 pub struct Source {

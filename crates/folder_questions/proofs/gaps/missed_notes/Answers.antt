@@ -18,7 +18,7 @@ those records refs pairs found are exact = subst (λ (ss : List SiteEvents). (p 
 
 pub returns-then-is_empty : goal.returns-then-is_empty
 returns-then-is_empty c = λ p there missed.
-    let exact = those (records_at c.args.records.now) c.as_slice.result.now c.args.pairs.now c.in_ok-missed.missed.items (ap sites_at c.as_slice.ensures.value ∙ c.in_ok-captured.ensures) c.in_ok-missed.ensures in
+    let exact = those (records_at c.args.records.now) c.as_slice.result.now c.args.pairs.now c.in_ok-missed.missed.items (ap sites_at c.as_slice.ensures.value ∙ c.in_ok-captured.ensures) c.in_ok-missed.ensures.exact in
     let (k, below, at) = (exact p).1 (there, missed) in
     let none : c.in_ok-missed.missed.len ≡ 0 = eqb-true c.in_ok-missed.missed.len 0 (sym c.is_empty.ensures ∙ c.if-is_empty.true) in
     omega (arith, below, none, c.in_ok-missed.missed.ok.0)
@@ -26,5 +26,6 @@ returns-then-is_empty c = λ p there missed.
 pub returns : goal.returns
 returns c = (
   λ none. false≢true (sym c.if-is_empty.false ∙ c.is_empty.ensures ∙ ap (λ n. n == 0) (c.in_ok-missed.missed.ok.0 ∙ ap length none)),
-  those (records_at c.args.records.now) c.as_slice.result.now c.args.pairs.now c.in_ok-missed.missed.items (ap sites_at c.as_slice.ensures.value ∙ c.in_ok-captured.ensures) c.in_ok-missed.ensures,
+  c.in_ok-missed.ensures.ascending,
+  those (records_at c.args.records.now) c.as_slice.result.now c.args.pairs.now c.in_ok-missed.missed.items (ap sites_at c.as_slice.ensures.value ∙ c.in_ok-captured.ensures) c.in_ok-missed.ensures.exact,
 )
