@@ -14,4 +14,7 @@ pub mod LotSpellings
 pub mod MovedLaws
 pub mod NoLots
 pub mod NamedLaws
+pub mod LostLaws
 pub mod RespelledLaws
+pub mod LineLemmas
+pub mod ConvertLemmas

@@ -25,3 +25,7 @@ array_values vs = listed_back (map view vs)
 pub filled : (vs : List Value) → not (length vs == 0) ≡ is_filled (Some (items_of (map view vs)))
 filled [] = refl
 filled (v ∷ vs) = rw (ne_eqb (suc (length vs)) 0 (λ e. absurd (omega arith))) refl
+
+pub listed_length : (vs : List Value) → length (in_order (items_of (map view vs))) ≡ length vs
+listed_length [] = refl
+listed_length (v ∷ vs) = ap suc (listed_length vs)

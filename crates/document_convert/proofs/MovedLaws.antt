@@ -1,7 +1,8 @@
 -- What is moved from a list of quantities to a list of items.
-use Rattle.std.proofs.Common.{◌≡◌, ℕ, List, [], ◌∷◌, Option, Some, None, refl, sym, ap, ◌∙◌}
+use Rattle.std.proofs.Common.{◌≡◌, ℕ, List, [], ◌∷◌, ◌++◌, Contains, Option, Some, None, map, refl, sym, ap, ◌∙◌, subst, arith}
 use Rattle.std.specs.Prelude.{option_and_then, option_map}
-use Rattle.std.proofs.lemmas.List.{append-nil}
+use Rattle.std.proofs.lemmas.List.{append-nil, length-map, get_or-map}
+use Rattle.std.proofs.lemmas.List.Elements.{Contains-append_right}
 use Rattle.std.proofs.lemmas.Option.{same_Some}
 use Rattle.serde_json.specs.View.{items_of}
 use Rattle.event_json.specs.Untraced.{in_order}
@@ -12,7 +13,7 @@ use Rattle.event_json.specs.Members.{member_named, present}
 use Rattle.document_convert.specs.Types.{with_member}
 use Rattle.document_convert.specs.Quantities.{and_texts, list_of, lots_of, moved, with_lots, without_member}
 use Rattle.document_convert.specs.LotLaws.{IsMoved, LotsAreMoved}
-use Rattle.document_convert.proofs.Lists.{items_back}
+use Rattle.document_convert.proofs.Lists.{items_back, listed_back}
 use Rattle.document_convert.proofs.Members.{other_member}
 use Rattle.document_convert.proofs.Without.{none_there, others_there}
 
@@ -43,6 +44,21 @@ set_there name q x (string s) found is = cc
 set_there name q x (array ds) found is = cc
 set_there name q x (object ms) found is = get_member-put name x ms
 
+-- ---- what a list has
+
+pub contains_none : {X : Type 0} (x : X) → Contains [] x → ⊥
+contains_none x (k, few, is) = omega (arith, few)
+
+pub contains_mapped : {X Y : Type 0} (f : X → Y) (xs : List X) (x : X) → Contains xs x → Contains (map f xs) (f x)
+contains_mapped f xs x (k, few, is) =
+    let long = length-map xs f in
+    (k, omega (arith, few, long), get_or-map f xs k x (f x) few ∙ ap f is)
+
+pub in_and_texts : (list : Items) (lots : List (List ℕ)) (lot : List ℕ) → Contains lots lot → Contains (in_order (and_texts list lots)) (string lot)
+in_and_texts list lots lot has =
+    subst (λ ds. Contains ds (string lot)) (sym (listed_back (in_order list ++ map string lots)))
+    (Contains-append_right (in_order list) (map string lots) (string lot) (contains_mapped string lots lot has))
+
 -- ---- what is moved
 
 has_lots : (o : Option Data) (lot : List ℕ) (lots : List (List ℕ)) → lots_of o ≡ Some (lot ∷ lots) → (found : Data) × (o ≡ Some found)
@@ -57,6 +73,7 @@ nothing_moved quantities items d found none same = record {
   lots = [];
   each = none;
   behind = λ list is. ap (λ v. list_of (member_named items v)) same ∙ is ∙ ap Some (sym (no_texts list));
+  named = λ lot there. absurd (contains_none lot there);
   none_left = ap (λ v. lots_of (member_named quantities v)) same ∙ none;
   others = λ name a b. ap (get name) same;
 }
@@ -85,6 +102,11 @@ some_moved quantities items d found list lot lots other each is same =
       behind = λ known its.
           ap (λ v. list_of (member_named items v)) same ∙ list_there quantities items (and_texts list (lot ∷ lots)) d there.0 other there.1
           ∙ ap (λ l. Some (and_texts l (lot ∷ lots))) (same_Some _ _ (sym is ∙ its));
+      named = λ one has. (
+        and_texts list (lot ∷ lots),
+        ap (λ v. list_of (member_named items v)) same ∙ list_there quantities items (and_texts list (lot ∷ lots)) d there.0 other there.1,
+        in_and_texts list (lot ∷ lots) one has,
+      );
       none_left = ap (λ v. lots_of (member_named quantities v)) same ∙ none_left quantities (with_member items (array (and_texts list (lot ∷ lots))) d);
       others = λ name a b. ap (get name) same ∙ others_without name quantities _ a ∙ other_member name items _ d b;
     }

@@ -6,3 +6,6 @@ pub mod Quantities
 pub mod LotLaws
 pub mod Respelled
 pub mod Lotted
+pub mod Texts
+pub mod Accounts
+pub mod Converted

@@ -1,5 +1,5 @@
 -- What becomes of lots, in the words of the one who recalls one.
-use Rattle.std.specs.Prelude.{◌≡◌, ◌⊎◌, ℕ, false, codes, List, [], map, None, Some, Ok}
+use Rattle.std.specs.Prelude.{◌≡◌, ◌⊎◌, ℕ, false, codes, Contains, List, [], map, None, Some, Ok}
 use Rattle.std.specs.List.{list_any}
 use Rattle.event_json.specs.Checks.{type_text}
 use Rattle.event_json.specs.Untraced.{in_order}
@@ -14,8 +14,8 @@ use Rattle.event_json.specs.Members.{member_named}
 use Rattle.event_json.specs.Sites.{Site}
 use Rattle.event_json.specs.declared.documents.Doc.{Doc}
 use Rattle.document_convert.specs.Lots.{SpellsLot, lot_of, lot_text}
-use Rattle.document_convert.specs.Quantities.{and_texts, list_of, lots_of, moved, with_its_lots}
-use Rattle.document_convert.specs.Respelled.{respelled_item, spells_otherwise, with_spelled_lots}
+use Rattle.document_convert.specs.Quantities.{and_texts, list_of, lot_in, lots_of, moved, with_its_lots}
+use Rattle.document_convert.specs.Respelled.{respelled_item, respelled_text, spells_otherwise, with_spelled_lots}
 use Rattle.document_convert.specs.Lotted.{document_with_lots, has_lots, lotted}
 
 -- ---- the spelling of a lot
@@ -39,12 +39,17 @@ LotsStayApart = (gtin number other another : List ℕ) → IsChecked 14 gtin →
 
 -- ---- the lots of an event
 
+-- the text is an item of a list of an event
+abbrev pub Names : List ℕ → List ℕ → Data → Type 0
+Names items text d = (list : Items) × (list_of (member_named items d) ≡ Some list) × Contains (in_order list) (string text)
+
 -- what is moved from a list of quantities to a list of items: all items stay, in order, each lot stands behind them, no quantity stays, and
 -- no other member changes
 pub record IsMoved (quantities items : List ℕ) (d found : Data) : Type 0 where
   pub lots : List (List ℕ)
   pub each : lots_of (member_named quantities d) ≡ Some lots
   pub behind : (list : Items) → list_of (member_named items d) ≡ Some list → list_of (member_named items found) ≡ Some (and_texts list lots)
+  pub named : (lot : List ℕ) → Contains lots lot → Names items lot found
   pub none_left : lots_of (member_named quantities found) ≡ Some []
   pub others : (name : List ℕ) → (name ≡ quantities → ⊥) → (name ≡ items → ⊥) → get name found ≡ get name d
 
@@ -93,6 +98,34 @@ pub record EventsAreRespelled : Type 0 where
   pub aggregations : (d : Data) → type_text d ≡ Some (codes "AggregationEvent") → AreRespelled (codes "parentID") (codes "childEPCs") d (with_spelled_lots d)
   pub transformations : (d : Data) → type_text d ≡ Some (codes "TransformationEvent")
       → AreRespelled (codes "inputEPCList") (codes "outputEPCList") d (with_spelled_lots d)
+
+-- ---- nothing gets lost
+
+-- a list of quantities of an event has an element of this lot
+abbrev pub NamesLot : List ℕ → List ℕ → Data → Type 0
+NamesLot quantities lot d = (list : Items) × (e : Data) × (member_named quantities d ≡ Some (array list)) × Contains (in_order list) e × (lot_in e ≡ Some lot)
+
+-- each item of a list is in this list, by its text, or by the one spelling of the lot that it spells
+abbrev pub KeepsItems : List ℕ → Data → Type 0
+KeepsItems items d = (text : List ℕ) → Names items text d → Names items (respelled_text text) (lotted d)
+
+-- each lot of a list of quantities is in the list of items of the same role, or it is in the list of quantities as before
+abbrev pub KeepsLots : List ℕ → List ℕ → Data → Type 0
+KeepsLots quantities items d = (lot : List ℕ) → NamesLot quantities lot d → Names items (respelled_text lot) (lotted d) ⊎ NamesLot quantities lot (lotted d)
+
+-- and so is a parent
+abbrev pub KeepsParent : Data → Type 0
+KeepsParent d = (text : List ℕ) → member_named (codes "parentID") d ≡ Some (string text) → member_named (codes "parentID") (lotted d) ≡ Some (string (respelled_text text))
+
+-- NOTHING GETS LOST: each text that an event names as an item is named by its conversion, in the list of the same role, and so is each lot.
+pub record NothingGetsLost : Type 0 where
+  pub objects : (d : Data) → type_text d ≡ Some (codes "ObjectEvent") → KeepsItems (codes "epcList") d × KeepsLots (codes "quantityList") (codes "epcList") d
+  pub aggregations : (d : Data) → type_text d ≡ Some (codes "AggregationEvent")
+      → KeepsParent d × KeepsItems (codes "childEPCs") d × KeepsLots (codes "childQuantityList") (codes "childEPCs") d
+  pub inputs : (d : Data) → type_text d ≡ Some (codes "TransformationEvent")
+      → KeepsItems (codes "inputEPCList") d × KeepsLots (codes "inputQuantityList") (codes "inputEPCList") d
+  pub outputs : (d : Data) → type_text d ≡ Some (codes "TransformationEvent")
+      → KeepsItems (codes "outputEPCList") d × KeepsLots (codes "outputQuantityList") (codes "outputEPCList") d
 
 -- an event does not change that has no quantities, and names no lot otherwise than by its one spelling
 abbrev pub WithoutStays : Type 0

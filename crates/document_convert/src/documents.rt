@@ -26,6 +26,11 @@ use std::alloc::{AllocError, Global};
 /// Where memory runs out.
 #[tactic(auto, unfolding(crate::specs::Documents::document_in))]
 pub fn document_in(alloc: Global, value: Value) -> Result<Option<Value>, AllocError>
+    // A capture finds in the document each event of the value, in order, and no other; each has the members that it
+    // had, but its type in `type`; what stands beside the body stays. What a capture reads stays as it is, and a second
+    // time changes nothing.
+    // Not covered: of an array its members are taken one by one, which no law says. Where a document changes, what
+    // stands in its body beside the list of events goes. A document may nest a level deeper than the value.
     ensures { IfOk result (λ found. option_map view found ≡ document_in (view value)) }
 {
     if is_settled(&value) {

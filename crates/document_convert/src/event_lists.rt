@@ -5,11 +5,11 @@ ghost use Rattle.std.specs.List.{list_all};
 ghost use Rattle.serde_json.specs.Find.{as_array};
 ghost use Rattle.serde_json.specs.View.{items_view, view};
 ghost use Rattle.event_json.specs.Documents.{listed};
-ghost use Rattle.event_json.specs.Untraced.{in_order};
+ghost use Rattle.event_json.specs.Untraced.{in_order, listed_events};
 ghost use Rattle.document_convert.specs.Documents.{body_events, document_events, is_settled, list_or_one, result_events};
 ghost use Rattle.document_convert.specs.Types.{missing_type};
 
-use crate::types::{member_named, missing_type, type_text, type_told};
+use crate::types::{is_event_type, member_named, missing_type, type_text, type_told};
 use serde_json::Value;
 
 /// An array, or an object, which is a list of itself.
@@ -101,4 +101,23 @@ pub(crate) fn is_settled(value: &Value) -> bool
         return false;
     };
     text == "EPCISDocument" && are_typed(list)
+}
+
+/// The events of a document in which a capture finds them, one where it is a bare event; none where it has no list of
+/// events.
+#[tactic(auto, unfolding(event_json::specs::Untraced::listed_events, event_json::specs::Documents::event_list))]
+pub(crate) fn events_of(document: &Value) -> &[Value]
+    ensures { in_order (items_view result.now) ≡ listed_events (view document.now) }
+{
+    let Some(text) = type_text(document) else {
+        return &[];
+    };
+    if text == "EPCISDocument" {
+        return listed(document).unwrap_or(&[]);
+    }
+    if is_event_type(text) {
+        std::slice::from_ref(document)
+    } else {
+        &[]
+    }
 }

@@ -1,6 +1,6 @@
 //! Laws of a value's document, each named by a function with an empty body whose contract is the law.
 
-ghost use Rattle.document_convert.specs.LotLaws.{EventsAreRespelled, LotsAreMoved, LotsAreNamed, LotsStayApart, ReadStaysWithLots, SpelledAreLots, SpellingsBecomeOne, TextsAreRespelled, WithoutStays};
+ghost use Rattle.document_convert.specs.LotLaws.{EventsAreRespelled, LotsAreMoved, LotsAreNamed, LotsStayApart, NothingGetsLost, ReadStaysWithLots, SpelledAreLots, SpellingsBecomeOne, TextsAreRespelled, WithoutStays};
 ghost use Rattle.document_convert.specs.Laws.{EventsAreKept, HoldersAreDocuments, HoldersAreThese, MembersAreKept, ReadIsUnchanged, SecondChangesNothing, SurroundingsAreKept, TypesAreKept, TypesAreThese, TypesAreTold};
 
 /// The type of a value is its `type`, else its `@type`, else its `isA`.
@@ -76,4 +76,10 @@ pub fn lots_are_respelled()
 pub fn read_stays_with_lots()
     ensures events { WithoutStays }
     ensures documents { ReadStaysWithLots }
+{}
+
+/// Nothing gets lost: each text that an event names as an item is named by its conversion in the list of the same role,
+/// and so is each lot of its quantities, or the event keeps these.
+pub fn nothing_gets_lost()
+    ensures { NothingGetsLost }
 {}

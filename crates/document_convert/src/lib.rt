@@ -2,6 +2,8 @@
 //! over JSON values, and loses nothing.
 #![tactic(auto)]
 
+mod accounts;
+mod converting;
 mod documents;
 mod event_lists;
 pub mod laws;
@@ -9,8 +11,11 @@ mod lots;
 mod lotted;
 mod quantities;
 mod respelling;
+mod texts;
 mod types;
 
+pub use accounts::Account;
+pub use converting::{Converted, Refused, convert};
 pub use documents::{document_in, documents_in};
 pub use lots::lot_of;
 pub use lotted::document_with_lots;

@@ -86,6 +86,10 @@ fn is_document(value: &Value) -> bool
 /// Where memory runs out.
 #[tactic(auto, unfolding(crate::specs::Lotted::document_with_lots))]
 pub fn document_with_lots(alloc: Global, document: Value) -> Result<Value, AllocError>
+    // Each lot of an event's quantities stands behind the items of the list of the same role, which all stay, in order,
+    // and no other member changes; or the event keeps its quantities, since an element has no lot or a list is none. A
+    // document that a capture reads stays as it is where it spells no lot otherwise.
+    // Not covered: that a list is longer than 1,000 items with its lots: a capture refuses it then.
     ensures { IfOk result (λ found. view found ≡ document_with_lots (view document)) }
 {
     if !is_document(&document) {

@@ -74,7 +74,7 @@ pub(crate) fn type_told(value: &Value) -> Option<&str>
 
 /// Whether a text is an event type of the standard.
 #[tactic(auto, unfolding(event_json::specs::Checks::type_named))]
-fn is_event_type(text: &str) -> bool
+pub(crate) fn is_event_type(text: &str) -> bool
     ensures { result ≡ is_some (type_named text.now) }
 {
     text == "ObjectEvent"

@@ -1,0 +1,53 @@
+-- What a conversion found and changed, in numbers.
+use Rattle.std.specs.Prelude.{ℕ, ◌+◌, ◌-◌, ◌^◌, List, [], ◌∷◌, Option, bytes_eq, codes, count_by, if◌then◌else◌, length, min, option_and_then, option_map, unwrap_or}
+use Rattle.serde_json.specs.Data.{Data}
+use Rattle.serde_json.specs.Find.{as_array}
+use Rattle.event_json.specs.Checks.{type_text}
+use Rattle.event_json.specs.Members.{count_of, member_named}
+use Rattle.event_json.specs.Untraced.{listed_events}
+use Rattle.document_convert.specs.Quantities.{has_quantities}
+use Rattle.document_convert.specs.declared.accounts.Account.{Account}
+
+-- a count rises by so many, and stays at the greatest number
+abbrev pub up : ℕ → ℕ → ℕ
+up count more = min (count + more) (2 ^ 64 - 1)
+
+-- ---- the quantities of a document
+
+abbrev pub elements_in : Option Data → ℕ
+elements_in list = unwrap_or (option_map count_of (option_and_then as_array list)) 0
+
+-- the elements of the lists of quantities that an event of this type has
+abbrev pub elements_by : Data → List ℕ → ℕ
+elements_by d type =
+    if bytes_eq type (codes "ObjectEvent") then elements_in (member_named (codes "quantityList") d) else
+    if bytes_eq type (codes "AggregationEvent") then elements_in (member_named (codes "childQuantityList") d) else
+    if bytes_eq type (codes "TransformationEvent")
+    then up (elements_in (member_named (codes "inputQuantityList") d)) (elements_in (member_named (codes "outputQuantityList") d))
+    else 0
+
+abbrev pub elements_of : Data → ℕ
+elements_of d = unwrap_or (option_map (elements_by d) (type_text d)) 0
+
+-- so many, and those of some events
+abbrev pub elements_from : ℕ → List Data → ℕ
+elements_from count [] = count
+elements_from count (d ∷ ds) = elements_from (up count (elements_of d)) ds
+
+-- those of a document
+abbrev pub quantities : Data → ℕ
+quantities d = elements_from 0 (listed_events d)
+
+-- ---- all documents
+
+abbrev pub none_yet : Account
+none_yet = record { written = 0; events = 0; lots = 0; left = 0 }
+
+-- with a document that had so many quantities, as it was written: each of them that isn't left is a lot among the items
+abbrev pub with_document : Account → ℕ → Data → Account
+with_document a had d = record {
+  written = up a.written 1;
+  events = up a.events (length (listed_events d));
+  lots = up a.lots (had - quantities d);
+  left = up a.left (count_by has_quantities (listed_events d));
+}

@@ -1,0 +1,63 @@
+-- What is written of a text: the documents that it holds, a line each, and what is told of the rest.
+use Rattle.std.specs.Prelude.{◌≡◌, ◌≤◌, ℕ, Bool, true, false, List, [], ◌∷◌, ◌++◌, Ok, Err, Some, map, string_bytes}
+use Rattle.std.specs.List.{flat_map}
+use Rattle.json.specs.Lex.{tokens}
+use Rattle.json.specs.Print.{print}
+use Rattle.serde_json.specs.Data.{Data, depth}
+use Rattle.serde_json.specs.Read.{max_depth, read}
+use Rattle.document_convert.specs.Accounts.{none_yet, quantities, with_document}
+use Rattle.document_convert.specs.Lotted.{document_with_lots}
+use Rattle.document_convert.specs.Texts.{Piece, pieces_of}
+use Rattle.document_convert.specs.declared.accounts.Account.{Account}
+use Rattle.document_convert.specs.declared.converting.Converted.{Converted}
+use Rattle.document_convert.specs.declared.converting.Refused.{Refused}
+
+-- ---- the lines
+
+-- a line of this value: JSON without a space, that is read back as the value, and a line feed
+pub record IsLineOf (d : Data) (line : List ℕ) : Type 0 where
+  pub text : List ℕ
+  pub reads_back : depth d ≤ max_depth → read text ≡ Some d
+  pub compact : text ≡ print (tokens text)
+  pub line_is : line ≡ text ++ 10 ∷ []
+
+-- a line for each of these values, in order, and nothing else
+abbrev pub AreLinesOf : List Data → List ℕ → Type 0
+AreLinesOf [] lines = lines ≡ []
+AreLinesOf (d ∷ ds) lines = (line : List ℕ) × (rest : List ℕ) × IsLineOf d line × AreLinesOf ds rest × (lines ≡ line ++ rest)
+
+-- ---- what is written of what stands in a text
+
+abbrev pub document_at : Piece → List Data
+document_at (Ok d) = d ∷ []
+document_at (Err refused) = []
+
+abbrev pub refused_at : Piece → List Refused
+refused_at (Ok d) = []
+refused_at (Err refused) = refused ∷ []
+
+-- a document as it is written, with its lots or without
+abbrev pub as_asked : Bool → Data → Data
+as_asked true d = document_with_lots d
+as_asked false d = d
+
+-- the documents of a text, as they are written
+abbrev pub documents_of : Bool → List Piece → List Data
+documents_of lots pieces = map (as_asked lots) (flat_map document_at pieces)
+
+abbrev pub refusals_of : List Piece → List Refused
+refusals_of pieces = flat_map refused_at pieces
+
+abbrev pub account_from : Bool → Account → List Data → Account
+account_from lots a [] = a
+account_from lots a (d ∷ ds) = account_from lots (with_document a (quantities d) (as_asked lots d)) ds
+
+-- each document is written in order, and each refusal told
+pub record AreConverted (lots : Bool) (pieces : List Piece) (converted : Converted) : Type 0 where
+  pub written : AreLinesOf (documents_of lots pieces) (string_bytes converted.lines)
+  pub told : converted.refused.items ≡ refusals_of pieces
+  pub counted : converted.account ≡ account_from lots none_yet (flat_map document_at pieces)
+
+-- those of a text
+abbrev pub IsConverted : Bool → List ℕ → Converted → Type 0
+IsConverted lots text converted = AreConverted lots (pieces_of text) converted

@@ -1,0 +1,160 @@
+//! What a conversion found and changed, in numbers.
+
+ghost use Rattle.std.specs.Prelude.{◌≡◌, count_by, length, option_map};
+ghost use Rattle.serde_json.specs.View.{items_view, view};
+ghost use Rattle.event_json.specs.Members.{member_named};
+ghost use Rattle.event_json.specs.Untraced.{in_order, listed_events};
+ghost use Rattle.document_convert.specs.Accounts.{elements_by, elements_in, elements_of, elements_from, none_yet, quantities, with_document};
+ghost use Rattle.document_convert.specs.Quantities.{has_quantities};
+
+use crate::event_lists::events_of;
+use crate::quantities::has_quantities;
+use crate::types::{member_named, type_text};
+use serde_json::{Value, json};
+use std::alloc::{AllocError, Global};
+
+/// What a conversion found and changed. Each count is at most 2^64 - 1, and stays there.
+#[derive(Clone, Copy, Debug, PartialEq, Eq)]
+pub struct Account {
+    /// The documents that were written, one a line.
+    pub written: u64,
+    /// Their events.
+    pub events: u64,
+    /// The elements of lists of quantities that are lots among the items now.
+    pub lots: u64,
+    /// The events that still have quantities, with which a capture refuses them.
+    pub left: u64,
+}
+
+impl Account {
+    /// Before the first document.
+    pub fn new() -> Account
+        ensures { result ≡ none_yet }
+    {
+        Account {
+            written: 0,
+            events: 0,
+            lots: 0,
+            left: 0,
+        }
+    }
+
+    /// With what another conversion found.
+    pub fn and(self, more: Account) -> Account {
+        Account {
+            written: self.written.saturating_add(more.written),
+            events: self.events.saturating_add(more.events),
+            lots: self.lots.saturating_add(more.lots),
+            left: self.left.saturating_add(more.left),
+        }
+    }
+
+    /// The line that tells it, as `note: written 1 events 3 lots 2 left 0`, with its LF.
+    ///
+    /// # Errors
+    /// Where memory runs out.
+    pub fn text(self, alloc: Global) -> Result<String, AllocError> {
+        let Account {
+            written,
+            events,
+            lots,
+            left,
+        } = self;
+        let mut text = format!(in alloc; "note: written {written} events {events}")?;
+        text.push_str(format!(in alloc; " lots {lots} left {left}\n")?.as_str())?;
+        Ok(text)
+    }
+
+    /// The same as a line of JSON.
+    ///
+    /// # Errors
+    /// Where memory runs out.
+    pub fn json(self, alloc: Global) -> Result<String, AllocError> {
+        let account =
+            json!(in alloc; {"events": self.events, "left": self.left, "lots": self.lots, "written": self.written})?;
+        let mut line = json!(in alloc; {"account": account})?.to_string(alloc)?;
+        line.push('\n')?;
+        Ok(line)
+    }
+
+    /// With a document more, that had so many quantities, as it was written.
+    pub(crate) fn with(self, had: u64, document: &Value) -> Account
+        ensures { result ≡ with_document self had (view document.now) }
+    {
+        let events = events_of(document);
+        Account {
+            written: self.written.saturating_add(1),
+            events: self.events.saturating_add(count(events)),
+            lots: self
+                .lots
+                .saturating_add(had.saturating_sub(quantities(document))),
+            left: self.left.saturating_add(left(events)),
+        }
+    }
+}
+
+/// How many events these are.
+#[tactic(auto, using(crate::proofs::Lists::listed_length))]
+fn count(events: &[Value]) -> u64
+    ensures { result ≡ length (in_order (items_view events.now)) }
+{
+    events.len() as u64
+}
+
+/// How many of these events have quantities.
+#[tactic(auto, using(event_json::proofs::Counted::counted))]
+fn left(events: &[Value]) -> u64
+    ensures { result ≡ count_by has_quantities (in_order (items_view events.now)) }
+{
+    events.iter().filter(|event| has_quantities(event)).count() as u64
+}
+
+/// How many elements the lists of quantities of a document's events have.
+pub(crate) fn quantities(document: &Value) -> u64
+    ensures { result ≡ quantities (view document.now) }
+{
+    let mut count: u64 = 0;
+    for event in events_of(document).iter() {
+        count = count.saturating_add(elements_of(event));
+    }
+    count
+}
+
+/// How many those of an event have.
+fn elements_of(event: &Value) -> u64
+    ensures { result ≡ elements_of (view event.now) }
+{
+    match type_text(event) {
+        Some(kind) => elements_by(event, kind),
+        None => 0,
+    }
+}
+
+/// How many those of an event of a type have.
+fn elements_by(event: &Value, kind: &str) -> u64
+    ensures { result ≡ elements_by (view event.now) kind.now }
+{
+    match kind {
+        "ObjectEvent" => elements_in(event, "quantityList"),
+        "AggregationEvent" => elements_in(event, "childQuantityList"),
+        "TransformationEvent" => {
+            let ins = elements_in(event, "inputQuantityList");
+            ins.saturating_add(elements_in(event, "outputQuantityList"))
+        }
+        _ => 0,
+    }
+}
+
+/// How many elements a member has, where it is a list.
+#[tactic(auto, using(event_json::proofs::Lists::items_count))]
+fn elements_in(event: &Value, name: &str) -> u64
+    ensures { result ≡ elements_in (member_named name.now (view event.now)) }
+{
+    let Some(list) = member_named(event, name) else {
+        return 0;
+    };
+    match list.as_array() {
+        Some(list) => list.len() as u64,
+        None => 0,
+    }
+}

@@ -1,0 +1,267 @@
+//! A text as it is found, turned into lines of documents that are captured.
+
+ghost use Rattle.std.specs.Prelude.{◌≡◌, ◌≤◌, ℕ, Bool, List, [], ◌∷◌, ◌++◌, Some, Ok, Err, IfOk, OnOk, map, option_map, string_bytes};
+ghost use Rattle.std.specs.List.{enumerate_from};
+ghost use Rattle.serde_json.specs.View.{view};
+ghost use Rattle.document_convert.specs.Converted.{AreConverted, IsConverted, IsLineOf, as_asked};
+ghost use Rattle.document_convert.specs.Texts.{Piece, begins, by_lines, first_number, line_pieces, lines_of, no_document, no_value, piece_of, pieces_at};
+
+use crate::accounts::{Account, quantities};
+use crate::documents::documents_in;
+use crate::lotted::document_with_lots;
+use crate::texts::{is_blank, lines_of, unmarked, value_of};
+use event_json::{DocFault, DocFaultKind, DocField};
+use serde_json::Value;
+use std::alloc::{AllocError, Global};
+
+/// What stands in a text in the place of a document, and is none.
+#[derive(Clone, Copy, Debug, PartialEq, Eq)]
+pub struct Refused {
+    /// The number of its line, from 1, or 0 where the text is one value, or none.
+    pub line: u64,
+    /// `Syntax` or `NotDocument`, with its number in its array, from 1, or 0.
+    pub fault: DocFault,
+}
+
+/// What comes of a text.
+#[derive(Debug, Drop)]
+pub struct Converted {
+    /// Its documents, one a line, each with its line feed.
+    pub lines: String,
+    /// What is no document, in order.
+    pub refused: Vec<Refused>,
+    pub account: Account,
+}
+
+/// Turns a text as it is found into documents that are captured, one a line: each as
+/// [`document_in`](crate::document_in) finds it, and where it is asked for with its lots, as
+/// [`document_with_lots`](crate::document_with_lots) has it.
+///
+/// The text is one JSON value, or else has one in each line, where its first line that isn't blank is one; a byte order
+/// mark may stand before it. A value is a document, or an array of some. What is none of this is refused, and keeps out
+/// no other: `Syntax` of a line, or of the text, that is no JSON in UTF-8, `NotDocument` of a value.
+///
+/// A line is the document's value, with members in the order of their names and without spaces. It is read back as this
+/// value where that nests at most 127 deep, as a capture reads it.
+///
+/// # Errors
+/// Where memory runs out.
+pub fn convert(alloc: Global, text: &[u8], lots: bool) -> Result<Converted, AllocError>
+    // The lines are those of the documents of the text, one for each, in order, and nothing else: the text is one
+    // value, or has one in each line that isn't blank, where the first of them is one. A line is JSON without a space,
+    // and is read back as its document's value. What is no document is told, in order, by its line and its place in its
+    // array.
+    // It is counted how many documents and events were written, how many quantities became lots, and how many events
+    // still have some.
+    // Not covered: a document that nests more than 127 deep isn't read back; how the account is printed, and added up
+    // over several texts.
+    ensures { IfOk result (IsConverted lots text.now) }
+{
+    let text = unmarked(text);
+    match value_of(alloc, text)? {
+        Some(value) => {
+            let mut converted = Converted::new(alloc);
+            converted.push_value(alloc, 0, value, lots)?;
+            Ok(converted)
+        }
+        None => by_lines(alloc, text, lots),
+    }
+}
+
+/// What comes of a text that isn't one value.
+fn by_lines(alloc: Global, text: &[u8], lots: bool) -> Result<Converted, AllocError>
+    ensures { IfOk result (AreConverted lots (by_lines (lines_of text.now))) }
+{
+    let lines = lines_of(alloc, text)?;
+    let lines = lines.as_slice();
+    let mut converted = Converted::new(alloc);
+    if !begins(alloc, lines)? {
+        converted.push_refused(no_value(0))?;
+        return Ok(converted);
+    }
+    for (place, line) in lines.iter().enumerate() {
+        converted.push_line(alloc, place as u64 + 1, line, lots)?;
+    }
+    Ok(converted)
+}
+
+/// Whether the first line that isn't blank is a value.
+fn begins(alloc: Global, lines: &[&[u8]]) -> Result<bool, AllocError>
+    ensures { IfOk result (λ yes. yes ≡ begins (map (λ l. l.now) lines.now)) }
+{
+    for line in lines {
+        if !is_blank(line) {
+            return Ok(value_of(alloc, line)?.is_some());
+        }
+    }
+    Ok(false)
+}
+
+/// What is no value.
+fn no_value(line: u64) -> Refused
+    ensures { result ≡ no_value line }
+{
+    let fault = DocFault {
+        event: 0,
+        field: DocField::Document,
+        kind: DocFaultKind::Syntax,
+    };
+    Refused { line, fault }
+}
+
+/// A value that is no document.
+fn no_document(line: u64, number: u64) -> Refused
+    ensures { result ≡ no_document line number }
+{
+    let fault = DocFault {
+        event: number,
+        field: DocField::Document,
+        kind: DocFaultKind::NotDocument,
+    };
+    Refused { line, fault }
+}
+
+/// A document as it is written, with its lots or without.
+fn as_asked(alloc: Global, document: Value, lots: bool) -> Result<Value, AllocError>
+    ensures { IfOk result (λ d. view d ≡ as_asked lots (view document)) }
+{
+    if lots {
+        document_with_lots(alloc, document)
+    } else {
+        Ok(document)
+    }
+}
+
+impl Converted {
+    /// Nothing yet.
+    fn new(alloc: Global) -> Converted
+        ensures { (lots : Bool) → AreConverted lots [] result }
+    {
+        Converted {
+            lines: String::new(alloc),
+            refused: Vec::new(alloc),
+            account: Account::new(),
+        }
+    }
+
+    /// Adds what stands in a line.
+    fn push_line(
+        &mut self,
+        alloc: Global,
+        number: u64,
+        line: &[u8],
+        lots: bool,
+    ) -> Result<(), AllocError>
+        ensures { OnOk result ((pieces : List Piece) → AreConverted lots pieces self.old
+            → AreConverted lots (pieces ++ line_pieces number line.now) self.new) }
+    {
+        if is_blank(line) {
+            return Ok(());
+        }
+        match value_of(alloc, line)? {
+            Some(value) => self.push_value(alloc, number, value, lots),
+            None => self.push_refused(no_value(number)),
+        }
+    }
+
+    /// Adds the documents of the value in a line.
+    fn push_value(
+        &mut self,
+        alloc: Global,
+        line: u64,
+        value: Value,
+        lots: bool,
+    ) -> Result<(), AllocError>
+        ensures { OnOk result ((pieces : List Piece) → AreConverted lots pieces self.old
+            → AreConverted lots (pieces ++ pieces_at line (Some (view value))) self.new) }
+    {
+        let first = first_number(&value);
+        let documents = documents_in(alloc, value)?;
+        self.push_all(alloc, line, first, documents, lots)
+    }
+
+    /// Adds the documents of a value, of which the first has this number.
+    fn push_all(
+        &mut self,
+        alloc: Global,
+        line: u64,
+        first: u64,
+        documents: Vec<Option<Value>>,
+        lots: bool,
+    ) -> Result<(), AllocError>
+        requires { first ≤ 1 }
+        ensures { OnOk result ((pieces : List Piece) → AreConverted lots pieces self.old
+            → AreConverted lots (pieces ++ map (piece_of line) (enumerate_from first
+            (map (option_map view) documents.items))) self.new) }
+    {
+        let mut number = first;
+        for document in documents {
+            self.push(alloc, line, number, document, lots)?;
+            number += 1;
+        }
+        Ok(())
+    }
+
+    /// Adds a document, or that there is none at this number of its array.
+    fn push(
+        &mut self,
+        alloc: Global,
+        line: u64,
+        number: u64,
+        document: Option<Value>,
+        lots: bool,
+    ) -> Result<(), AllocError>
+        ensures { OnOk result ((pieces : List Piece) → AreConverted lots pieces self.old
+            → AreConverted lots (pieces ++ piece_of line (number, option_map view document) ∷ [])
+            self.new) }
+    {
+        match document {
+            Some(document) => self.push_document(alloc, document, lots),
+            None => self.push_refused(no_document(line, number)),
+        }
+    }
+
+    /// Adds what is no document.
+    fn push_refused(&mut self, refused: Refused) -> Result<(), AllocError>
+        ensures { OnOk result ((lots : Bool) (pieces : List Piece) → AreConverted lots pieces self.old
+            → AreConverted lots (pieces ++ Err refused ∷ []) self.new) }
+    {
+        self.refused.push(refused)?;
+        Ok(())
+    }
+
+    /// Adds a document.
+    fn push_document(
+        &mut self,
+        alloc: Global,
+        document: Value,
+        lots: bool,
+    ) -> Result<(), AllocError>
+        ensures { OnOk result ((pieces : List Piece) → AreConverted lots pieces self.old
+            → AreConverted lots (pieces ++ Ok (view document) ∷ []) self.new) }
+    {
+        let had = quantities(&document);
+        let document = as_asked(alloc, document, lots)?;
+        push_text(alloc, &mut self.lines, &document)?;
+        self.account = self.account.with(had, &document);
+        Ok(())
+    }
+}
+
+/// Adds the line of a document.
+fn push_text(alloc: Global, lines: &mut String, document: &Value) -> Result<(), AllocError>
+    ensures { OnOk result ((line : List ℕ) × IsLineOf (view document.now) line
+        × (string_bytes lines.new ≡ string_bytes lines.old ++ line)) }
+{
+    let text = document.to_string(alloc)?;
+    lines.push_str(text.as_str())?;
+    lines.push('\n')
+}
+
+/// The number of the first document of a value in its array, or 0 where it is none.
+fn first_number(value: &Value) -> u64
+    ensures small { result ≤ 1 }
+    ensures number { result ≡ first_number (view value.now) }
+{
+    if value.is_array() { 1 } else { 0 }
+}
