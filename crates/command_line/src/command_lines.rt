@@ -470,7 +470,7 @@ fn spelling_of(given: &ArgMatches<'_>) -> Option<Spelling>
     }
 }
 
-/// How it is told how each pair is reached.
+/// Whether paths are shown in full or by their last step.
 fn ways_of(given: &ArgMatches<'_>) -> Ways
     ensures { GivesWays (rows_of (found_of given.now)) result }
 {

@@ -56,12 +56,30 @@ pub fn run_command<
     output: &mut W,
     errors: &mut E,
 ) -> u8
+    // A command line asks for a script, a command on files, several inputs, a look through documents, help, or is a bad
+    // one, as `clap` reads it for this command; or memory runs out.
+    //
+    // A command on files was done: its row says what the calls of the files that lead to its output say of the records
+    // and of the outcome; that was written in the form that was asked for, with the outcome's status, or writing
+    // failed, with 3. Or it has a fault, which is that of the calls, with 3, and nothing was written.
+    // Not covered: that a file is waited for, or a longer document isn't read: the machine's files say nothing of these
+    // calls.
+    //
+    // Several inputs end as `take_inputs` says, with a line for what came of each, written once it is kept; a look
+    // through documents as `lint_documents` says.
+    //
+    // Help has 0, or 3 where it couldn't be written; a bad command line has 2, and nothing was read or written.
+    // Not covered: the text of help.
     ensures ends { Ends F.does F.waits F.limits F.knows K.shown K.failed K.may K.reopens G.gives_up
         K.stored W.contents words.now files.old files.new
         (streams I.remaining input.old output.old) (streams I.remaining input.new output.new) result }
+    // The status of a script is 0 exactly where it was answered to its end and nothing was refused, 1 where something
+    // was refused, and 3 after a fault, with what that fault leaves.
     ensures sim { SimRuns W.contents files.old files.new
         (streams I.remaining input.old output.old) (streams I.remaining input.new output.new)
         result words.now }
+    // Whatever a command comes to, its calls of the files are acts of single sites, by frames that these gave each
+    // other, wherever the files go on.
     ensures acts { LeadByActs K.shown K.may F.does files.old files.new }
 {
     match command_lines::read(alloc, words) {

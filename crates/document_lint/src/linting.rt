@@ -21,14 +21,15 @@ use serde_json::Value;
 use std::alloc::{AllocError, Global};
 
 /// What is wrong with a document in the JSON form of GS1 EPCIS 2.0, an EPCISDocument or one bare event, and what is
-/// strange about its events, with destinations looked up among the sites. Of each event that can't be read its first
-/// fault is told. A document without a fault is one that `read_document` of `event_json` reads. Where the site that is
-/// to capture it is named, it is told of events that happened at another one.
+/// strange about its events, with destinations looked up among the sites. An event that can't be read is reported with
+/// its first fault. A document without a fault is one that `read_document` of `event_json` reads. Where the site that
+/// is to capture it is named, it is told of events that happened at another one.
 ///
 /// # Errors
 /// Where memory runs out.
 #[tactic(auto, unfolding(crate::specs::Findings::text_lint))]
 pub fn lint_document(alloc: Global, bytes: &[u8], listing: &Listing<'_>) -> Result<Lint, AllocError>
+    // Not covered: what is told after the first fault, and which warnings there are, has no law above its definition.
     ensures { IfOk result (IsLint listing.now.sites.now listing.now.here bytes.now) }
 {
     match Value::from_slice(alloc, bytes) {

@@ -30,6 +30,7 @@ pub enum Split {
 /// # Errors
 /// Where memory runs out.
 pub fn split_document(alloc: Global, bytes: Vec<u8>) -> Result<Split, AllocError>
+    // Not covered: what else stands in these documents: it isn't read.
     ensures { IfOk result (IsSplit bytes.items) }
 {
     let value = match Value::from_slice(alloc, bytes.as_slice()) {

@@ -44,7 +44,7 @@ impl LintTotals {
         }
     }
 
-    /// The line that tells them, as `total events 9 faults 1 warnings 6`, with its LF.
+    /// The line that reports them, as `total events 9 faults 1 warnings 6`, with its LF.
     ///
     /// # Errors
     /// Where memory runs out.

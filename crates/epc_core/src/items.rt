@@ -103,8 +103,12 @@ impl Epc {
     /// The faults are those of a text that isn't plain, the first that applies, or `NoMemory`, which
     /// comes only of a plain text that names an opaque item and has more than 30 bytes.
     pub fn read(alloc: Global, text: &str) -> Result<Epc, EpcFault>
+        // The text is read as the item that it spells, or refused by its first fault: `Empty`, `TooLong` or `BadByte`
+        // with the byte's place from 0. Each comes exactly where the text has that fault.
+        // Not covered: how a spelling is put together and the check digit stand by their own words.
         ensures gives { Gives result (reading text.now) }
         ensures spells { IfOk result (λ e. Spells text.now e) }
+        // Not covered: that a read succeeds with memory at hand.
         ensures memory { result ≡ Err EpcFault.NoMemory → IsPlain text.now }
         ensures long { result ≡ Err EpcFault.NoMemory → TakesMemory (key_of text.now) }
     {

@@ -43,6 +43,7 @@ pub enum DocFaultKind {
 impl DocFaultKind {
     /// The kind by its name.
     pub fn name(self) -> &'static str
+        // Not covered: that the names are the right words.
         ensures { result.now ≡ kind_name self }
     {
         match self {

@@ -164,9 +164,13 @@ pub fn read_value(alloc: Global, value: &Value, sites: &Sites) -> Result<Doc, Re
 /// are read as JSON, it comes only of a document that has no fault (`read_value`).
 #[tactic(auto, unfolding(crate::specs::Documents::text_document))]
 pub fn read_document(alloc: Global, bytes: &[u8], sites: &Sites) -> Result<Doc, ReadFault>
+    // The bytes are read as exactly the document's events, with the number of those that it skips; or its first fault
+    // is returned, with event, member and kind, in the order of the checks. Nothing else is accepted.
+    // Not covered: `event_list`, `event_of` and `text_document` stand by cases, one definition for each check.
     ensures text { IsUtf8 bytes.now → Gives result (text_document sites.now bytes.now) }
     ensures bytes { (IsUtf8 bytes.now → ⊥)
         → Gives result (Err (whole fields.Document kinds.Syntax)) }
+    // Not covered: `serde_json` allocates while it reads the bytes, and may run out before a fault is known.
     ensures memory { result ≡ Err ReadFault.NoMemory → 0 < length bytes.now }
 {
     match Value::from_slice(alloc, bytes) {

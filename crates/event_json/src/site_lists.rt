@@ -236,6 +236,7 @@ impl Sites {
     /// cause for, each found without allocating, or `NoMemory` where there is cause for none. The
     /// sites then are as they were.
     pub fn add(&mut self, name: &str, addresses: &[&str]) -> Result<SiteNo, SitesFault>
+        // Not covered: the first reason, `sites_fault`, stands by its own words.
         ensures free { OnOk result (sites_fault self.old name.now (map (λ a. a.now) addresses.now)
             ≡ None) }
         ensures number { IfOk result (λ site. site ≡ length self.old) }

@@ -160,6 +160,8 @@ fn of_value(alloc: Global, value: &Value, sites: &Sites) -> Result<Untraced, Rea
 /// `Doc` with the document's first fault, as [`read_document`](crate::read_document) has it, or `NoMemory`.
 #[tactic(auto, unfolding(crate::specs::Untraced::text_untraced))]
 pub fn read_untraced(alloc: Global, bytes: &[u8], sites: &Sites) -> Result<Untraced, ReadFault>
+    // Counts skipped events, ObjectEvents of business step shipping without a destination, destinations that are no
+    // traced site, and kept events without an eventID; or the document's first fault is returned.
     ensures text { IsUtf8 bytes.now → Gives result (text_untraced sites.now bytes.now) }
     ensures bytes { (IsUtf8 bytes.now → ⊥)
         → Gives result (Err (whole fields.Document kinds.Syntax)) }

@@ -79,7 +79,7 @@ pub(crate) struct BatchRun<K> {
 }
 
 /// Captures documents, or starts recalls of items, at a site of a folder, whose file is opened once. Each input is a
-/// step of its own, and the sink is told what came of it once it is kept. An input that is refused hinders no other.
+/// step of its own, and the sink gets what came of it once it is kept. A refused input doesn't affect the others.
 ///
 /// # Errors
 /// Those of the folder's list, those of opening the site's file, `Read` where a file of inputs can't be read, those of
@@ -95,9 +95,15 @@ pub fn take_inputs<K: SiteKeeper, F: Files<K>, W, S: InputSink<W>>(
     sink: &S,
     output: &mut W,
 ) -> Result<BatchOutput, Fault>
+    // The file is opened once; each input is read, and captured, or a recall of its item started, or refused, from the
+    // record that the one before it left, and told to the sink once it is kept, in order; then the file is closed in
+    // the record to which they lead, which a crash leaves there.
     ensures all { IfOk result (λ told. Led F.does files.old files.new
         (TakesAll K.shown K.stored (S.takes sink.now) folder.now site.now batch.now.kind
         (map (λ w. w.now) batch.now.words.now) output.old output.new told)) }
+    // Nothing was changed or told; or those that were told are kept, in order, the fault is that of the file of inputs,
+    // of the next input's step, of the sink, or of memory, and the file was closed in the record to which those inputs
+    // lead, or in the one after one input more.
     ensures failed { IfErr result (λ fault. Led F.does files.old files.new
         (BatchFails K.shown K.stored (S.takes sink.now) folder.now site.now batch.now.kind
         (map (λ w. w.now) batch.now.words.now) K.may output.old output.new fault)) }

@@ -47,10 +47,10 @@ pub enum LintCame {
     Looked(LintTotals),
 }
 
-/// Looks for what is wrong and what is strange in documents, by the sites of a list: the sink is told of each document
-/// before the next one is read. Where the site that is to capture them is named, it is told of events that happened at
-/// another one. Where a line of the list is refused, it has fewer than two sites or it doesn't list that site, that is
-/// the outcome, and no document is read. No other file is asked for.
+/// Looks for what is wrong and what is strange in documents, by the sites of a list: the sink gets what is found in
+/// each document before the next one is read. Where the site that is to capture them is named, that includes events
+/// that happened at another one. Where a line of the list is refused, it has fewer than two sites or it doesn't list
+/// that site, that is the outcome, and no document is read. No other file is asked for.
 ///
 /// # Errors
 /// `Read` where the list or a document can't be read, and those of the sink. `NoMemory` at any time.
@@ -63,6 +63,8 @@ pub fn lint_documents<K: SiteKeeper, F: Files<K>, W, S: LintSink<W>>(
     sink: &S,
     output: &mut W,
 ) -> Result<LintOutput, Fault>
+    // The list of sites was read, and refused as `init` refuses it; or each file was read, in order, and what is found
+    // in it told to the sink, by the sites of the list. No site's file is opened.
     ensures all { IfOk result (λ told. Led F.does files.old files.new
         (Lints (S.takes sink.now) list.now (option_map (λ t. t.now) site.entry)
         (map (λ p. p.now) paths.now) output.old output.new told)) }

@@ -35,6 +35,9 @@ pub fn init<K: SiteKeeper, F: Files<K>>(
     folder: &str,
     list: &str,
 ) -> Result<Output, Fault>
+    // All that is refused is reported, in order, and nothing was made; or nothing is refused, and the file of each site
+    // was made, in order, in the record of a site at which nothing happened yet, and last the folder's list with the
+    // text that was read.
     ensures calls { IfOk result (λ output.
         Led F.does files.old files.new (InitsAt folder.now list.now output)) }
     ensures failed { IfErr result (λ fault.

@@ -25,7 +25,7 @@ struct Ran {
     end: Option<RunEnd>,
 }
 
-/// Runs all sites of a folder, each in a thread of its own, where one can be made, for so many turns: at most
+/// Runs all sites of a folder, each in a thread of its own, where one can be made, for `turns` turns, at most
 /// 1,000,000.
 ///
 /// Frames go from site to site, and nothing else is done: each step of a site is that of a frame. The outcome has each
@@ -45,6 +45,18 @@ pub fn run_sites<
     R: Threads + Wait + Clock + Sync,
 >(rt: &R, alloc: Global, files: &mut F, gate: G, folder: &str, turns: u64) -> Result<Output, Fault>
     requires turns { turns ≤ 1000000 }
+    // The files of all sites are opened, their keepers are run by `run_of`, and the files are closed.
+    //
+    // Each keeper is open afterwards in the record to which its steps lead from the one that it began with, each the
+    // step of a frame; each gate was asked for all turns of the run, or for fewer where the site is done, so that a
+    // recall is reported open only where the site that began it was asked for all of them; and what the sites did is a
+    // run of the world, which comes out as the headline says.
+    //
+    // The notes of a run name just the sites that stopped in steps of it, in order, with the number of these steps, and
+    // `Device` where the count of its device's failures rose in the run, else `Store`; and whether a recall is open.
+    //
+    // Where the records aren't consistent before the run, the condition and the site are reported, and nothing has
+    // changed.
     ensures calls { IfOk result (λ output. Led F.does files.old files.new
         (RunsAt (F.knows files.new) K.shown K.failed K.may K.stored folder.now turns output)) }
     ensures failed { IfErr result (λ fault. Led F.does files.old files.new
@@ -63,9 +75,9 @@ pub fn run_sites<
     })
 }
 
-/// Runs the sites of these keepers, in the order of their numbers, for so many turns: at most 1,000,000. Each has a
-/// copy of the gate to its turns. The keepers are given back, open where there is an outcome; then what the sites did is
-/// a run of the world, which comes out as that of `World::run` does.
+/// Runs the sites of these keepers, in the order of their numbers, for `turns` turns, at most 1,000,000. Each has a
+/// copy of the gate to its turns. The keepers are given back, open where there is an outcome; then what the sites did
+/// is a run of the world, which comes out as that of `World::run` does.
 ///
 /// # Errors
 /// `OtherSites` where the keepers aren't of one list of sites, in order, and `Closed` where one is closed: they are as
@@ -86,6 +98,7 @@ fn run_of<K: SiteKeeper + Send, G: Gate + Copy + Send, R: Threads + Wait + Clock
     ensures answered { IfOk result.1 (λ ran.
         AnswersRun K.shown K.failed K.may turns keepers.items result.0.items ran.outcome
         ran.end) }
+    // Whether it has an answer or not, what the keepers stored before the run they store after it.
     ensures stored { All K.stored keepers.items → All K.stored result.0.items }
     ensures failed { IfErr result.1 (FailsRun K.shown K.may K.reopens G.gives_up turns keepers.items
         result.0.items) }

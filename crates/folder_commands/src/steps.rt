@@ -16,8 +16,8 @@ use site_core::{Effects, Refusal, SiteInput};
 use site_folders::{Files, no_site, open_site, refusal, sites_of, unspelled};
 use std::alloc::{AllocError, Global};
 
-/// Captures the document in a file at a site of a folder. Of a document that is captured the notes tell what isn't
-/// traced; one that is refused has none.
+/// Captures the document in a file at a site of a folder. The notes of a captured document say what isn't traced; a
+/// refused one has none.
 ///
 /// # Errors
 /// In this order, each without a change: those of the folder's list, `Read` where the document can't be read, those of
@@ -30,8 +30,15 @@ pub fn capture<K: SiteKeeper, F: Files<K>>(
     site: &str,
     file: &str,
 ) -> Result<Output, Fault>
+    // The folder's list was read, the document at the path that was given, and the site's file was opened; its record
+    // took just this step or refused it, and the file was closed, on which a crash leaves the record that is shown. Of
+    // a document that was captured it is noted what isn't traced.
     ensures calls { IfOk result (λ output. Led F.does files.old files.new
         (CapturesAt K.shown K.stored folder.now site.now file.now output)) }
+    // Nothing was changed; or the site's file was opened, the fault is that of its step, `Device` only where the count
+    // of the device's failures rose in it, and the file was closed, to be opened in the record before the step or in
+    // the one after it, which a crash leaves there.
+    // Not covered: that a fault comes with a cause: out of memory needs none.
     ensures failed { IfErr result (λ fault. Led F.does files.old files.new
         (CaptureFails K.shown K.may K.failed K.stored folder.now site.now file.now fault)) }
 {

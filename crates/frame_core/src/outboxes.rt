@@ -92,6 +92,8 @@ impl Outbox {
     ///
     /// In a restored outbox a row may stand at the next number; it is written over.
     pub fn number(&mut self, dest: SiteNo, recall: RecallId, item: Epc) -> Result<u64, NumberFault>
+        // A row is kept under the next number, which is never used again; or `NumbersSpent` is returned, exactly after
+        // 2^62.
         ensures number { IfOk result (λ number. number ≡ self.old.next) }
         ensures rows { OnOk result (self.new.rows ≡ numbered self.old.rows self.old.next recall
             ((dest, item) ∷ [])) }
@@ -138,6 +140,7 @@ impl Outbox {
         requires low { 1 ≤ first }
         requires no_higher { first ≤ self.old.next }
         // Where they were numbered from rows that stood below, it is what it was before.
+        // Not covered: that it is one look, and what it costs.
         ensures rows { (rows : map.FinMap nat_cmp Told) (r : Recall) (out : List (ℕ × List ℕ))
             → AreBelow rows first → self.old.rows ≡ numbered rows first r out
             → self.old.next ≡ first + length out → self.new.rows ≡ rows }
@@ -190,6 +193,7 @@ impl Outbox {
 
     /// How many messages of a recall are unsignalled. Does not allocate.
     pub fn rows_of(&self, recall: RecallId) -> u64
+        // Not covered: that it is one look-up.
         ensures { result ≡ rows_of self.now.rows recall }
     {
         self.rows.count(recall)
@@ -202,7 +206,7 @@ impl Outbox {
         self.rows.count(recall) > 0
     }
 
-    /// Whether a message of a recall is unsignalled beside this one, which is of the recall. Does not allocate.
+    /// Whether another message of the recall is unsignalled than this one, which is of it. Does not allocate.
     pub fn has_rows_beside(&self, number: u64, recall: RecallId) -> bool
         requires of_recall { (row : Told) × (map.get self.now.rows number ≡ Some row)
             × (row.recall ≡ recall) }
@@ -226,7 +230,7 @@ impl Outbox {
         ensures entries { result.now.entries ≡ map.entries self.now.rows }
     {
         let rows = self.rows.by_number();
-        // The length shows the proof that the numbers ascend.
+        // Brings into scope that the numbers ascend.
         let _length = rows.len();
         rows
     }

@@ -90,7 +90,7 @@ impl Seen {
         ensures messages { as_map message_cmp result.now ≡ self.now }
         ensures entries { result.now.entries ≡ map.entries self.now }
     {
-        // The length shows the proof that the messages ascend.
+        // Brings into scope that the messages ascend.
         let _length = self.messages.len();
         &self.messages
     }

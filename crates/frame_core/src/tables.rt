@@ -57,7 +57,7 @@ impl Copyable for Row {
 pub fn get<K: Key, V>(map: &BTreeMap<K, V>, key: K) -> Option<&V>
     ensures { option_map (λ value. value.now) result ≡ finite.get (as_map K.cmp map.now) key }
 {
-    // The length shows the proof that the keys ascend.
+    // Brings into scope that the keys ascend.
     let _length = map.len();
     map.get(&key)
 }
@@ -112,7 +112,7 @@ pub fn undo<K: Key, V: Drop>(map: &mut BTreeMap<K, V>, key: K, before: Option<V>
 pub fn are_below<V>(map: &BTreeMap<u64, V>, number: u64) -> bool
     ensures { IsTrue result ↔ AreBelow (as_map nat_cmp map.now) number }
 {
-    // The length shows the proof that the keys ascend.
+    // Brings into scope that the keys ascend.
     let _length = map.len();
     match map.last_key_value() {
         Some((last, _)) => *last < number,

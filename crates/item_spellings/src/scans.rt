@@ -18,6 +18,11 @@ use std::alloc::{AllocError, Global};
 /// fails only where memory runs out.
 #[tactic(auto, unfolding(crate::specs::Scans::scan_reading))]
 pub fn read_scan(alloc: Global, text: &str) -> Result<Result<Epc, ScanFault>, AllocError>
+    // The text is written of exactly the element strings that are read, in brackets or raw, and has no second reading.
+    // The item is that of its GTIN and serial number, or of its SSCC, in whatever order they stand and whatever stands
+    // beside them. A text is refused for want of elements exactly where it is written of none.
+    // Not covered: the table of lengths by the first two digits of an identifier, which tests reach at nine of them; of
+    // several faults which one is named.
     ensures { IfOk result (λ item. item ≡ scan_reading text.now) }
 {
     let Some(elements) = elements_of(alloc, text)? else {

@@ -23,7 +23,8 @@ pub trait SiteKeeper: Drop {
     /// The records in which it may be opened while it is closed.
     ghost may: { Self → Record → Type 0 };
 
-    /// While it is closed it may be opened in some record: what is said of each such record isn't said of none.
+    /// While it is closed it may be opened in some record: there is at least one, so claims about all of them aren't
+    /// vacuous.
     ghost may_be_opened: { (k : Self) → shown k ≡ None → (r : Record) × may k r };
 
     /// How often the device has failed.
@@ -60,25 +61,38 @@ pub trait SiteKeeper: Drop {
     /// record that it had. After `Device`, which comes only where [`SiteKeeper::failures`] rose, and after `Store`
     /// it is closed, to be opened in the record before the input or in the one after it.
     fn apply(&mut self, input: SiteInput) -> Result<Effects, KeepFault>
+        // A step that is answered is kept. A refusal and out of memory leave the record as it was.
+        //
+        // A failure closes the keeper, which is then opened in the record before the input or in the one after it, and
+        // in no third.
         ensures open { (old : Record) → shown self.old ≡ Some old
             → Applies old input result (shown self.new) (may self.new) }
         ensures memory { (old : Record) → shown self.old ≡ Some old
             → result ≡ Err KeepFault.NoMemory → CopiesRecord old input }
         ensures closed { shown self.old ≡ None → (result ≡ Err KeepFault.Closed)
             × (self.new ≡ self.old) }
+        // A failure of the device is returned only where the count of failures rose.
+        // Not covered: the keeper makes that count itself.
         ensures cause { result ≡ Err KeepFault.Device → Rises (failed self.old) (failed self.new) }
         ensures store { result ≡ Err KeepFault.Store → store_failed self.new }
         ensures count { failed self.old ≤ failed self.new }
+        // Where a crash leaves on the device the record that the keeper shows, or one in which it may be opened, it
+        // does so afterwards, whether the step is done or failed.
+        // Not covered: of a keeper in memory nothing outlives a crash.
         ensures stored { stored self.old → stored self.new }
         ensures kind { applies self.old input result self.new };
 
-    /// A step of which nothing is reported, since the site stops in it: the keeper is closed then, to be opened in the
-    /// record that is to be kept. That is the old one, or the new one: the record after the input, and the old one only
-    /// where the input is refused, or the device or the store failed. On a closed keeper it changes nothing.
+    /// A step in which the site stops, so that nothing is reported of it: the keeper is closed then, to be opened in
+    /// the record that is to be kept. That is the old one, or the new one: the record after the input, and the old one
+    /// only where the input is refused, or the device or the store failed. On a closed keeper it changes nothing.
     ///
     /// # Errors
     /// Where memory runs out, and an open keeper stays open with the record that it had.
     fn stop(&mut self, input: SiteInput, keep: Keep) -> Result<(), AllocError>
+        // The keeper is closed without a result, to be opened in the old record; or, where the new one is to be kept,
+        // in the one after the input, and then in the old one only where the input is refused, or the device or the
+        // store failed.
+        // Not covered: an error of the database: no clause ties `store_failed` to it in a stop.
         ensures open { (old : Record) → shown self.old ≡ Some old
             → Stops old input keep (Rises (failed self.old) (failed self.new) ⊎ store_failed self.new)
             (is_ok result) (shown self.new) (may self.new) }

@@ -15,7 +15,7 @@ use recall_text::write_text;
 use std::alloc::{AllocError, Global};
 use std::io::Write;
 
-/// Writes what is told beside an outcome: what its refusals mean (not in JSON), its notes, what is advised, and which
+/// Writes what is reported beside an outcome: what its refusals mean (not in JSON), its notes, its advice, and which
 /// places outside may be a traced site.
 pub fn write_beside<E: Write>(alloc: Global, form: Form, output: &Output, errors: &mut E)
     ensures { AppendsText (E.contents errors.old) (E.contents errors.new) }

@@ -13,7 +13,7 @@ pub fn values_are_read()
     ensures { ValuesAreRead }
 {}
 
-/// Where a value is printed, it tells which outcome it is of.
+/// A printed value shows which outcome it belongs to.
 pub fn values_tell_kinds()
     ensures { ValuesTellKinds }
 {}

@@ -10,6 +10,7 @@ use std::alloc::{AllocError, Global};
 /// direction (U+061C, U+200E, U+200F, U+202A to U+202E, U+2066 to U+2069), U+2028 and U+2029 are written by their codes, as
 /// `\u{1b}`, and a backslash twice. So it is one line, and turns nothing around; any other character is as it was.
 pub fn shown(alloc: Global, text: &str) -> Result<String, AllocError>
+    // Not covered: that a line has its texts so is tested: tests/messages.sh, tests/files.sh.
     ensures exact { IfOk result (λ t. string_bytes t ≡ shown text.now) }
     ensures seen { IfOk result (λ t. NoCharPasses is_hidden (string_bytes t)) }
 {

@@ -30,6 +30,11 @@ pub fn write_outcome<W: Write>(
     outcome: &Outcome,
     output: &mut W,
 ) -> Result<(), Fault>
+    // As JSON, what is written of an outcome is just the lines of its values, also where a report or a trace is written
+    // pair by pair.
+    //
+    // As rows, what is written of a report or a trace is read back as the rows of its account; as a picture, no text of
+    // others becomes a part of its language.
     ensures ok { OnOk result (Writes form sites.now outcome.now (W.contents output.old)
         (W.contents output.new)) }
     ensures text { AppendsText (W.contents output.old) (W.contents output.new) }

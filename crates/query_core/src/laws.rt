@@ -18,12 +18,13 @@ pub fn an_ended_recall_waits_for_nothing()
     ensures { EndsWaitForNothing }
 {}
 
-/// Where the sites are consistent, the message by which a site is engaged is one that waits, and was told to the site.
+/// Where the sites are consistent, the message by which a site is engaged is one that waits, and that the site has
+/// seen.
 pub fn a_parent_waits()
     ensures { ParentsWait }
 {}
 
-/// Where the sites are consistent, what a message told of is quarantined where it was told.
+/// Where the sites are consistent, what a message announced is quarantined where the message was seen.
 pub fn a_told_item_is_held()
     ensures { ToldItemsAreHeld }
 {}
@@ -43,22 +44,22 @@ pub fn a_detail_is_listed()
     ensures { DetailsAreListed }
 {}
 
-/// The counts of a recall are the sums of its sites' counts, and as many messages are told of as wait.
+/// The counts of a recall are the sums of its sites' counts, and as many messages are listed as wait.
 pub fn sites_add_up()
     ensures { SitesAddUp }
 {}
 
-/// An item that is asked for by its whole key is told of exactly where the site knows it.
+/// An item that is asked for by its whole key is listed exactly where the site knows it.
 pub fn a_whole_key_is_told()
     ensures { WholeKeysAreTold }
 {}
 
-/// What is told of where a longer text is asked for is told of where a part of it is.
+/// What is listed for a text is listed for each part of it.
 pub fn a_shorter_text_tells_more()
     ensures { ShorterTextsTellMore }
 {}
 
-/// A site is told to be stuck in a recall exactly where it takes part in it and has no message of it that waits.
+/// A site is reported as stuck in a recall exactly where it takes part in it and has no message of it that waits.
 pub fn stuck_sites_are_told()
     ensures { StuckAreTold }
 {}

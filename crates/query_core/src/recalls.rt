@@ -64,7 +64,7 @@ pub struct RecallDetail {
     pub waiting: Sequence<WaitingMessage>,
 }
 
-/// Why a recall can't be told of.
+/// Why there is no answer about a recall.
 #[derive(Clone, Copy, Debug, Drop, PartialEq, Eq, Error)]
 pub enum QueryFault {
     /// No site's record has the recall as one that the site began.
@@ -90,6 +90,8 @@ impl From<AllocError> for QueryFault {
 /// Out of memory.
 pub fn recall_statuses(alloc: Global, sites: &[&SiteState]) -> Result<Vec<RecallStatus>, AllocError>
     requires all { AreAllSites (records_at sites.now) }
+    // All recalls that the sites began, in order, each once: its root and whether it has ended, as the record of its
+    // site has them, how many pairs are quarantined under it at all sites, and how many rows of it all outboxes have.
     ensures { IfOk result (λ statuses. AreStatuses (records_at sites.now) statuses.items) }
 {
     let counts = waiting_counts(alloc, sites)?;
@@ -112,6 +114,9 @@ pub fn recall_detail(
     recall: RecallId,
 ) -> Result<RecallDetail, QueryFault>
     requires all { AreAllSites (records_at sites.now) }
+    // Also each site that holds an item under the recall, waits for a signal or is engaged, with its counts and its
+    // parent; and each row of it in an outbox, with whether the site that it is for has seen the message. In order,
+    // each once.
     ensures ok { IfOk result (IsDetail (records_at sites.now) recall) }
     ensures fault { IfErr result (TellsFault (world_at sites.now) recall) }
 {

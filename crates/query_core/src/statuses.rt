@@ -38,7 +38,7 @@ pub(crate) fn add_statuses(
     Ok(())
 }
 
-/// How one recall stands, of which so many messages wait.
+/// How one recall stands, of which this many messages wait.
 pub(crate) fn status_of(
     alloc: Global,
     sites: &[&SiteState],

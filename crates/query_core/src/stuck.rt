@@ -13,8 +13,8 @@ use site_core::SiteState;
 use std::alloc::{AllocError, Global};
 use std::collections::BTreeMap;
 
-/// A site that a recall waits at in vain: it is engaged for the recall, or began it and hasn't recorded its end, and has
-/// no message of it whose signal would go on with that. No run leads there from new sites.
+/// A site at which a recall waits in vain: it is engaged for the recall, or began it and hasn't recorded its end, and
+/// has no message of it whose signal would go on with that. No run leads there from new sites.
 #[derive(Clone, Copy, Debug, Drop, PartialEq, Eq)]
 pub struct StuckRecall {
     pub recall: RecallId,

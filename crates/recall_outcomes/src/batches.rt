@@ -18,14 +18,14 @@ pub enum Task {
 /// What came of an input.
 #[derive(Debug, Drop)]
 pub enum InputOutcome {
-    /// A document was captured: so many of its events are new, were captured before, and are of a type that isn't
+    /// A document was captured: how many of its events are new, were captured before, and are of a type that isn't
     /// traced.
     Captured {
         fresh: u64,
         known: u64,
         skipped: u64,
     },
-    /// A recall was started: so many items came under it there, so many messages were numbered, and whether it has
+    /// A recall was started: how many items came under it there, how many messages were numbered, and whether it has
     /// ended.
     Started {
         recall: RecallId,

@@ -1,11 +1,11 @@
-//! What is told beside an outcome.
+//! What is reported beside an outcome.
 
 use epc_core::Epc;
 use event_json::{SiteNo, Untraced};
 use query_core::StuckRecall;
 use trace_core::Pair;
 
-/// What is told beside an outcome.
+/// What is reported beside an outcome.
 #[derive(Debug, Drop)]
 pub enum Notes {
     /// Nothing.

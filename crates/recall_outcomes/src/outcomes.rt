@@ -15,7 +15,7 @@ use report_core::{BackTrace, RecallReport, StepEvents, Trace, Verdict};
 use site_core::{Effects, Refusal};
 use site_recovery::Misfit;
 
-/// How it is told how each pair of a report or a trace is reached.
+/// Whether a path is shown in full or by its last step.
 #[derive(Clone, Copy, Debug, PartialEq, Eq)]
 pub enum Ways {
     /// By all pairs of its trail.
@@ -40,7 +40,7 @@ pub struct AuditedRecall {
     pub verdict: Option<Verdict>,
 }
 
-/// Where sites tell nothing of what others packed, or sent them.
+/// Where a site's events say nothing of what others packed, or sent it.
 #[derive(Debug, Drop)]
 pub struct FoundGaps {
     /// The containers that a site shipped on and others packed: it never captured that.

@@ -158,7 +158,7 @@ impl Answer {
         Ok(Answer::Done(format!(in alloc; "open {name}\n")?))
     }
 
-    /// What was reported in so many rounds, and how many frames were sent in them.
+    /// What some rounds reported, and how many frames they sent.
     pub fn pumped(
         alloc: Global,
         text: String,

@@ -14,6 +14,7 @@ const MOST_TRIES: u32 = 1_024;
 /// Writes all of a text. A write that is interrupted or takes no byte is made again, at most 1,024
 /// times in a row. At [`ScriptFault::Write`], the only fault, a beginning of the text was written.
 pub fn write_text<W: Write>(writer: &mut W, text: &[u8]) -> Result<(), ScriptFault>
+    // Not covered: that it fails only where the writer did.
     ensures ok { OnOk result (Appends (W.contents writer.old) (W.contents writer.new) text.now) }
     ensures err { OnErr result (AppendsBeginning (W.contents writer.old)
         (W.contents writer.new) text.now) }

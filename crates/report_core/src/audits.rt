@@ -37,6 +37,8 @@ pub enum Verdict {
 /// for no such recall.
 pub fn audit(alloc: Global, sites: &[&SiteState], recall: RecallId) -> Result<Verdict, ReportFault>
     requires all { AreAllSites (records_at sites.now) }
+    // An audit is `Equal`, with their number, exactly where the quarantined pairs are those in reach of the root; else
+    // it names the least pair in one set and not in the other, and in which.
     ensures ok { IfOk result (IsVerdict (records_at sites.now) recall) }
     ensures known { IfOk result (λ _. IsSome (own (world_at sites.now) recall.site recall.number)) }
     ensures fault { IfErr result (TellsFault (world_at sites.now) recall) }

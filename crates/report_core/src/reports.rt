@@ -41,6 +41,10 @@ pub fn report(
     recall: RecallId,
 ) -> Result<RecallReport, ReportFault>
     requires all { AreAllSites (records_at sites.now) }
+    // The report has the recall's root and whether it has ended, as the record of the site that began it has them; the
+    // quarantined pairs in order, each once; for each a chain from the root without repeats, such that no chain has
+    // fewer pairs, or that there is none; and each shipment of a quarantined item, or of what it lies in, out of the
+    // traced sites, in order, each once.
     ensures ok { IfOk result (IsReport (records_at sites.now) recall) }
     ensures fault { IfErr result (TellsFault (world_at sites.now) recall) }
 {

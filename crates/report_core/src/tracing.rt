@@ -28,6 +28,9 @@ pub fn trace(
     item: &Epc,
 ) -> Result<Trace, TraceFault>
     requires all { AreAllSites (records_at sites.now) }
+    // The trace has the item at the site as its root; just the pairs in reach of it, in order, each once; for each a
+    // chain from the root without repeats, such that no chain has fewer pairs; and each shipment of such a pair's item,
+    // or of what it lies in, from its site out of the traced sites, in order, each once.
     ensures ok { IfOk result (IsTrace (records_at sites.now) site item.now) }
     ensures known { IfOk result (λ _. IsKnownAt (world_at sites.now) site item.now) }
     ensures fault { IfErr result (TellsTraceFault (world_at sites.now) site item.now) }

@@ -32,6 +32,9 @@ pub fn trace_back(
     item: &Epc,
 ) -> Result<BackTrace, TraceFault>
     requires all { AreAllSites (records_at sites.now) }
+    // The trace has the item at the site as its root; just the pairs that reach it, in order, each once; from each a
+    // chain to the root without repeats, such that no chain has fewer pairs; and those of them that no pair is related
+    // to, in order, each once.
     ensures ok { IfOk result (IsBackTrace (records_at sites.now) site item.now) }
     ensures known { IfOk result (λ _. IsKnownAt (world_at sites.now) site item.now) }
     ensures fault { IfErr result (TellsTraceFault (world_at sites.now) site item.now) }

@@ -13,7 +13,7 @@ use event_json::{Event, PlainText, Sequence};
 use std::alloc::{AllocError, Global};
 use trace_core::Pair;
 
-/// A captured event, as it is told of.
+/// A captured event, as it is shown.
 #[derive(Debug, Drop)]
 pub struct CapturedEvent {
     /// Its number at its site, from 1, in the order in which the site captured its events.
@@ -40,7 +40,7 @@ pub enum StepEvents {
     },
 }
 
-/// Of which steps of a trail the events are told.
+/// The steps of a trail whose events are shown.
 #[derive(Clone, Copy, Debug, PartialEq, Eq)]
 pub enum ShownSteps {
     /// Of each.

@@ -16,7 +16,7 @@ use std::alloc::{AllocError, Global};
 use std::collections::BTreeSet;
 use trace_core::{Captured, Pair};
 
-/// The steps of which events are told, by what has to be found for them.
+/// The steps whose events are shown, by what has to be found for them.
 #[derive(Drop)]
 pub struct WantedSteps {
     /// The items of their pairs, and maybe others.

@@ -25,8 +25,8 @@ use site_core::SiteState;
 use site_recovery::captured;
 use std::alloc::{AllocError, Global};
 
-/// Reports a recall as `report` does, and tells along each trail the first captured events that relate the pairs of
-/// each of its steps, or in brief of its last step alone. Of a pair without a trail no events are told.
+/// Reports a recall as `report` does, and lists along each trail the first captured events that relate the pairs of
+/// each of its steps, or in brief of its last step alone. A pair without a trail has no events.
 ///
 /// Goes over the events of all sites three times, and twice more where a step that is told may be a shipment. Keeps the
 /// places of what takes the items of these steps in, gives them out and ships them alone; and for shipments also those of
@@ -44,6 +44,12 @@ pub fn report_with_events(
 ) -> Result<(RecallReport, Vec<Sequence<StepEvents>>), ReportFault>
     requires all { AreAllSites (records_at sites.now) }
     ensures report { IfOk result (λ told. IsReport (records_at sites.now) recall told.0) }
+    // Behind a step stand the first captured events of its first pair's site that relate its two pairs: the first
+    // shipment of the item, or of what it lies in, to the other site; or the first event that takes the item in for a
+    // transformation which gives the other one out, with the first part of it that does.
+    //
+    // An event has its number at its site, from 1, its eventID, and its time in UTC, which is read back as its very
+    // instant; there is none just where no time can name the instant.
     ensures events { IfOk result (λ told. AreToldAlong (captured_of (records_at sites.now))
         (if brief then Last else Each) (map or_no_pairs told.0.trails) told.1.items) }
     ensures fault { IfErr result (TellsFault (world_at sites.now) recall) }

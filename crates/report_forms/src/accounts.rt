@@ -63,7 +63,7 @@ impl<'a> Way<'a> {
     }
 }
 
-/// A pair, how it is reached, and the events of the steps that are told, where they are.
+/// A pair, how it is reached, and the events of its steps, where they are shown.
 #[derive(Drop)]
 pub struct Part<'a> {
     pub pair: &'a Pair,
@@ -124,7 +124,7 @@ impl<'a> Model for Account<'a> {
 }
 
 impl<'a> Account<'a> {
-    /// A report, with the events of the steps of each pair's trail, as far as they are told.
+    /// A report, with the events of the steps of each pair's trail, as far as they are shown.
     pub fn of_report(
         recall: RecallId,
         report: &'a RecallReport,

@@ -29,6 +29,7 @@ pub fn csv_table(
     account: &Account<'_>,
     guard: bool,
 ) -> Result<String, AllocError>
+    // Not covered: what a spreadsheet makes of a field.
     ensures { IfOk result (λ t. records default_config (string_bytes t)
         ≡ table_rows guard (account_rows sites.now account.now)) }
 {

@@ -15,6 +15,7 @@ use trace_core::Pair;
 
 /// The picture of a report or a trace, in which each text of others stands in quotes.
 pub fn dot_graph(alloc: Global, sites: &Sites, account: &Account<'_>) -> Result<String, AllocError>
+    // Not covered: which nodes and edges there are: tests/forms.sh compares them with the JSON.
     ensures { IfOk result (λ t. IsPicture (string_bytes t)) }
 {
     let mut picture = Picture::new(alloc);

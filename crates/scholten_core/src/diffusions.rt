@@ -138,12 +138,16 @@ impl Diffusion {
     /// Begins a recall of an item, and numbers a message for each destination and item, in order. With no
     /// message the recall has ended. A fault changes nothing.
     pub fn begin(&mut self, root: Epc, out: &[(SiteNo, Epc)]) -> Result<Began, NumberFault>
+        // To begin a recall is one stated change of the site's maps (outbox, seen messages, parents, own recalls, next
+        // numbers) with its answer, for every record.
         ensures answer { IfOk result (λ answer. answer ≡ began self.old out.now) }
+        // Where a row or an own recall stands at a next number, as a restored record may have it, it is written over.
         ensures ok { OnOk result (self.new ≡ begun self.old root out.now) }
         // The next recall has no number, or more messages are needed than numbers are left.
         ensures spent { (result ≡ Err NumberFault.NumbersSpent)
             ↔ ((2 ^ 62 < self.old.next_recall)
             ⊎ (2 ^ 62 + 1 < self.old.next_message + length out.now)) }
+        // Not covered: what a call costs.
         ensures err { OnErr result (self.new ≡ self.old) }
     {
         if self.next_recall > LAST_NUMBER || out.len() as u64 > self.outbox.numbers_left() {
@@ -176,6 +180,8 @@ impl Diffusion {
         recall: RecallId,
         out: &[(SiteNo, Epc)],
     ) -> Result<Received, NumberFault>
+        // To receive a message is one stated change of the maps with its answer, for every record. A repeat is found
+        // without memory and without numbers.
         ensures answer { IfOk result (λ answer.
             answer ≡ (received self.old message recall out.now).1) }
         ensures ok { OnOk result (self.new ≡ (received self.old message recall out.now).0) }
@@ -313,6 +319,7 @@ impl Diffusion {
 
     /// Takes the signal for a message of this site. Does not allocate.
     pub fn signalled(&mut self, number: u64) -> Signalled
+        // To take a signal is one stated change of the maps with its answer, for every record.
         ensures answer { result ≡ (signalled self.old number).1 }
         ensures state { self.new ≡ (signalled self.old number).0 }
     {
@@ -447,7 +454,7 @@ impl Diffusion {
         ensures parents { as_map recall_cmp result.now ≡ self.now.parents }
         ensures entries { result.now.entries ≡ map.entries self.now.parents }
     {
-        // The length shows the proof that the recalls ascend.
+        // Brings into scope that the recalls ascend.
         let _length = self.parents.len();
         &self.parents
     }
@@ -464,7 +471,7 @@ impl Diffusion {
         ensures own { as_map nat_cmp result.now ≡ self.now.own }
         ensures entries { result.now.entries ≡ map.entries self.now.own }
     {
-        // The length shows the proof that the numbers ascend.
+        // Brings into scope that the numbers ascend.
         let _length = self.own.len();
         &self.own
     }

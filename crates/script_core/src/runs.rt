@@ -41,10 +41,22 @@ pub fn run_script<R: Read, W: Write>(
     reader: &mut R,
     writer: &mut W,
 ) -> Result<Tally, ScriptFault>
-    // What was written is the answers to what was read.
+    // Exactly the answers to the lines of what was read are written, one after another, wherever the reader and the
+    // writer report their bytes; the tally counts the lines and the refusals, and no line was too long.
+    // Not covered: that an answer is written before the next line is read.
+    //
+    // Each line that runs a recall does to a world of keepers in memory, and is answered, just what the definition
+    // says.
     ensures done { IfOk result (λ tally. IfSome (R.remaining reader.old) (λ input.
         IsDone input (W.contents writer.old) (W.contents writer.new) tally)) }
-    // After a fault the answers before it were written.
+    // `Read` and `TurnsSpent` leave the answers to all whole lines that the reader gave; `LineTooLong` those to all
+    // lines before the first that is over the limit; `Write` a beginning of the answers' text.
+    // Not covered: that `Read` and `Write` come only where a stream failed.
+    //
+    // `NoMemory` comes only before anything was read, or at a line of over 8,192 bytes or one that allocates, and
+    // leaves the answers to all lines before it. BadLine, Late and NoWorld are answered without memory, and so is
+    // BadEpc once the world has begun.
+    // Not covered: how much memory a line needs.
     ensures fault { IfErr result (λ fault. IfSome (R.remaining reader.old) (λ input.
         Leaves fault input (R.remaining reader.new) (W.contents writer.old)
         (W.contents writer.new))) }

@@ -54,6 +54,12 @@ pub fn capture_all(
 ) -> Result<Added, CaptureFault>
     ensures ok { IfOk result (λ added. IsCaptured captured.old quarantine.now given.items
         (record { events = captured.new.events; fresh = added.fresh; known = added.known })) }
+    // A capture is refused exactly at the first event whose eventID is taken, or which is new and would lead from an
+    // item that is quarantined here under some recall to a pair that isn't quarantined here under that recall.
+    //
+    // An event is blocked by the least item, and then by the least recall, from which it would lead out of a
+    // quarantine.
+    // Not covered: no law says "least": it stands in the definition alone.
     ensures fault { IfErr result (λ fault.
         TellsRefusal captured.old quarantine.now given.items fault) }
     ensures unchanged { OnErr result (captured.new ≡ captured.old) }

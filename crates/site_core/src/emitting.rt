@@ -10,6 +10,7 @@ use frame_core::{FrameView, MsgId};
 /// number, and then the signal of each message that it has seen and that is no parent, by sender and
 /// number. `None` past the last one. Does not allocate.
 pub fn emittable(state: &SiteState, place: u64) -> Option<FrameView<'_>>
+    // Not covered: the order of places has no law; what a look-up costs.
     ensures { option_map frame_of result ≡ frame_at state.now.engagement place }
 {
     if place == 0 {

@@ -38,7 +38,7 @@ impl ItemSet {
     pub fn contains(&self, item: &Epc) -> bool
         ensures { result ≡ set.contains self.now item.now }
     {
-        // The length shows the proof that the keys ascend.
+        // Brings into scope that the keys ascend.
         let _length = self.items.len();
         self.items.contains(item)
     }

@@ -1,4 +1,4 @@
-//! What a step returns by a look at the record, which does not allocate and changes nothing.
+//! Answers that need no change of the record, and don't allocate.
 ghost use Rattle.std.specs.Prelude.{◌≡◌, ◌≤◌, ◌<◌, ◌↔◌, length, IsTrue};
 ghost use Rattle.frame_core.specs.declared.frames.Frame.TheVariants as frames;
 ghost use Rattle.site_core.specs.Looks.{IsAnsweredBy};

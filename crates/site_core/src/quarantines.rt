@@ -194,7 +194,7 @@ impl Quarantine {
         ensures entries { result.now.entries ≡ finite.entries self.now }
         ensures no_empty { HasNoEmptySet self.now }
     {
-        // The length shows the proof that the recalls ascend.
+        // Brings into scope that the recalls ascend.
         let _length = self.recalls.len();
         &self.recalls
     }

@@ -130,6 +130,8 @@ impl SiteState {
     /// The site's own number.
     pub fn me(&self) -> SiteNo
         ensures me { result ≡ self.now.engagement.me }
+        // The record is sound: the sites, the captured events, the quarantine and the engagement, with every site
+        // number of the list and every number in range.
         ensures sound { IsSound self.now }
     {
         self.diffusion.me()

@@ -4,9 +4,9 @@
 ghost use Rattle.site_core.specs.CapturingLaws.{BlockedEventsLeadOut, CapturesLeadNoFurther, EventsHaveAnOutcome};
 ghost use Rattle.site_core.specs.StepLaws.{AnswersTellChanges, CapturesGrow, CapturesKeepTheDocument, ClearsFixes, CountIsFixed, DoneIsNotRefused, EffectsAreFixed, IdleFramesChangeNothing, InputsHaveAnOutcome, MessagesAreForTheSite, MessagesAreTaken, MisdirectedMessagesAreRefused, OpensFixes, RefusalsAreFixed, SignalsAreOfTheSite, SignalsClear, SignalsOfOthersAreRefused, StaleSignalsAreOwn, StartsOpen, TakesFixes};
 
-/// A document that is captured is kept, and is so many fresh events, one after another, none of which leads a
-/// quarantined item to a pair that isn't at this site and quarantined under the same recall. An event is
-/// blocked only where it would.
+/// A captured document is kept, and is as many fresh events, one after another, as are reported, none of which leads a
+/// quarantined item to a pair that isn't at this site and quarantined under the same recall. An event is blocked only
+/// where it would.
 pub fn a_capture_leads_no_further()
     ensures grows { CapturesGrow }
     ensures keeps { CapturesKeepTheDocument }
@@ -34,6 +34,7 @@ pub fn a_signal_clears_its_row()
 /// What opens, is taken or is cleared fixes the record afterwards, among those that keep no recall without
 /// items, and how many items came under the recall.
 pub fn ways_fix_what_follows()
+    // Not covered: among records that keep no recall without items.
     ensures opens { OpensFixes }
     ensures takes { TakesFixes }
     ensures clears { ClearsFixes }
@@ -49,6 +50,7 @@ pub fn an_answer_tells_a_change()
 
 /// A message or a signal does something, or is refused for its numbers, only at the site that it is for.
 pub fn frames_are_for_their_site()
+    // Not covered: which frames are a site's (`IsForSite`, `IsOwnMessage`) stands by its own words.
     ensures messages { MessagesAreForTheSite }
     ensures signals { SignalsAreOfTheSite }
 {}
@@ -66,6 +68,7 @@ pub fn frames_of_others_are_refused()
 /// Unless memory runs out, an input has one outcome: one effect that leaves one record, or one reason
 /// for which it is refused, and not both.
 pub fn an_input_has_one_outcome()
+    // Not covered: out of memory is beside them.
     ensures effects { EffectsAreFixed }
     ensures not_both { DoneIsNotRefused }
     ensures refusals { RefusalsAreFixed }

@@ -33,6 +33,8 @@ pub enum Stepped {
 /// `IdTaken` before `Blocked`; for a start `UnknownItem`, then `NumbersSpent`; for a frame `NotMine`, then
 /// `NumbersSpent`. `NoMemory` may come before any, but not for a frame that changes nothing.
 pub fn step(alloc: Global, state: &SiteState, input: &SiteInput) -> Result<Stepped, Refusal>
+    // The step on a copy does what the step in place does, and runs out of memory where that may, and for a signal
+    // whose row stands.
     ensures done { IfOk result (λ stepped. IsStepped state.now input.now stepped) }
     ensures refused { IfErr result (λ why. Refuses state.now input.now why) }
     ensures memory { result ≡ Err Refusal.NoMemory → CopiesRecord state.now input.now }
@@ -71,9 +73,19 @@ impl SiteState {
     /// # Errors
     /// As those of [`step`]. Nothing is changed then. `NoMemory` comes of no signal.
     pub fn apply(&mut self, input: &SiteInput) -> Result<Effects, Refusal>
+        // What the input does to the record in place, with its effects; or the refusal that it meets, which changes
+        // nothing.
+        // Not covered: what a step costs.
+        //
+        // A start quarantines the item's spread under the next recall number, and numbers one message for each item of
+        // it and each other site that this item was shipped to. A message that wasn't seen does the same for what its
+        // recall doesn't hold yet; it becomes the parent, or its signal is due at once. A signal clears the row of its
+        // message.
         ensures done { IfOk result (λ effects. Does self.old input.now effects self.new) }
         ensures refused { IfErr result (λ why. Refuses self.old input.now why) }
         ensures unchanged { OnErr result (self.new ≡ self.old) }
+        // Memory runs out for no signal, no repeat, no frame that isn't for the site and no item that the site doesn't
+        // know.
         ensures memory { result ≡ Err Refusal.NoMemory → TakesMemory self.old input.now }
     {
         match look(self, input) {

@@ -17,7 +17,7 @@ use frame_core::{Frame, MsgId, RecallId};
 use scholten_core::Received;
 use std::alloc::AllocError;
 
-/// What a step in place leaves, beside its effects: by it the step is taken back, and its rows are found.
+/// What takes back a step that was done in place, and finds its rows.
 #[derive(Debug, Drop)]
 pub struct StepUndo {
     /// How many events were captured before it.
@@ -38,6 +38,8 @@ impl SiteState {
     /// As those of [`SiteState::apply`]. Nothing is changed then.
     pub fn apply_noted(&mut self, input: &SiteInput) -> Result<(Effects, StepUndo), Refusal>
         ensures done { IfOk result (λ made. Does self.old input.now made.0 self.new) }
+        // What takes the step back is how many events stood, the next message's number, what came under a recall, and
+        // the record itself only where numbers that come next are taken, to which no run leads.
         ensures undo { IfOk result (λ made. IsUndoOf made.1 self.old input.now) }
         ensures refused { IfErr result (λ why. Refuses self.old input.now why) }
         ensures unchanged { OnErr result (self.new ≡ self.old) }
@@ -107,6 +109,7 @@ impl SiteState {
         requires done { (old : Record) × Does old input.now effects.now self.old
             × IsUndoOf undo old input.now }
         requires no_signal { IsSignal input.now → ⊥ }
+        // Not covered: that it needs no memory but for what is known of the quarantine beside it.
         ensures { (old : Record) → Does old input.now effects.now self.old
             → IsUndoOf undo old input.now → self.new ≡ old }
     {

@@ -35,7 +35,7 @@ pub trait Files<K: SiteKeeper> {
     /// From these files, being told to wait for so many seconds led to those files.
     ghost waits: { Self → ℕ → Self → Type 0 };
 
-    /// Is told for how many seconds a file is waited for that another program has open: before the first call, none.
+    /// Sets for how many seconds to wait for a file that another program has open. Before the first call it is none.
     fn wait_for(&mut self, seconds: u64)
         ensures { waits self.old seconds self.new };
 
@@ -64,6 +64,8 @@ pub trait Files<K: SiteKeeper> {
 
     /// Opens the file of the site of a name, on which a crash leaves the record that is shown.
     fn open_site(&mut self, alloc: Global, path: &str, name: &str) -> Result<K, Fault>
+        // The site's file was opened at its path under its name; it shows the sound record of that site of those sites,
+        // and a crash leaves that there.
         ensures opened { IfOk result (λ keeper.
             does self.old (OpenedSite path.now name.now keeper) self.new) }
         ensures stored { IfOk result K.stored }
@@ -83,7 +85,7 @@ pub trait Files<K: SiteKeeper> {
     fn known_of(&self, alloc: Global, path: &str) -> Result<String, AllocError>
         ensures { IfOk result (λ known. knows self.now path.now (string_bytes known)) };
 
-    /// Is told which file a fault is about that no call of the files returned, before that fault is reported.
+    /// Records the file that the next fault is about, where no call of the files returned that fault.
     fn blame(&mut self, path: &str)
         ensures { does self.old (Blamed path.now) self.new };
 
@@ -118,6 +120,7 @@ pub fn sites_of<K: SiteKeeper, F: Files<K>>(
     files: &mut F,
     folder: &str,
 ) -> Result<Sites, Fault>
+    // The folder's list was read, no line of it is refused, and it lists at least two sites.
     ensures read { IfOk result (λ sites.
         Led F.does files.old files.new (ListsSites folder.now sites)) }
     ensures failed { IfErr result (λ fault.

@@ -70,9 +70,13 @@ pub fn ask<K: SiteKeeper, F: Files<K>, Q: Question>(
     folder: &str,
     question: &Q,
 ) -> Result<(Sites, Q::Answer), Fault>
+    // The question is refused by the list alone; or the files of all sites were opened, the answer is what the records
+    // say, and each was closed as it was.
     ensures answered { IfOk result (λ told. Led F.does files.old files.new
         (AsksAll K.shown K.stored folder.now (Q.refuses question.now) (Q.asks question.now)
         (Q.answers question.now) told.0 told.1)) }
+    // A call failed with the fault, or the list is a bad one, or a file isn't that of its site, or memory ran out; and
+    // no site was changed.
     ensures failed { IfErr result (λ fault.
         Led F.does files.old files.new (EndsInVain K.shown folder.now fault)) }
 {

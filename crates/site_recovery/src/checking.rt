@@ -98,6 +98,8 @@ fn check_justified(alloc: Global, sites: &[&SiteState]) -> Result<(), CheckFault
 /// `NoMemory`.
 pub fn check_world(alloc: Global, sites: &[&SiteState]) -> Result<(), CheckFault>
     requires all { AreAllSites (records_at sites.now) }
+    // Not covered: it requires records of all sites, in order (`are_all_sites` tests it); that it succeeds with memory
+    // at hand. No law names a condition's number.
     ensures ok { OnOk result (Fits (world_at sites.now) []) }
     ensures fault { IfErr result (TellsMisfit (length sites.now) (world_at sites.now)) }
 {

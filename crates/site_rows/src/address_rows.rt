@@ -150,7 +150,7 @@ pub fn address_rows(alloc: Global, sites: &Sites) -> Result<Sequence<AddressRow>
     ensures texts { IfOk result (λ _. All HasTexts sites.now) }
 {
     let addresses = addresses_of(alloc, sites)?;
-    // The length shows the proof that the texts ascend.
+    // Brings into scope that the texts ascend.
     let _length = addresses.len();
     Ok(Sequence::from_vec(listed(alloc, &addresses)?))
 }

@@ -66,6 +66,9 @@ pub fn state_of(alloc: Global, keys: RandomState, rows: &Rows) -> Result<SiteSta
     ensures bad { IfErr result (λ fault. IsStateFault rows.now fault) }
     ensures kept { IfOk result (λ state. IsKept state) }
     ensures items { IfOk result (λ state. HoldsItems state) }
+    // From the rows of a record, in tables of a version that has room for them, just that record is read, or memory ran
+    // out: a record whose sites and numbers are as a site keeps them, whose events are within their limits, and whose
+    // texts are items, sites and plain texts. What is read is such a record.
     ensures same { HasTables rows.now → (s : Record) → IsKept s → HoldsItems s
         → rows_under rows.now.version s ≡ rows.now
         → MatchResult result (λ state. state ≡ s) (λ fault. fault ≡ NoMemory) }

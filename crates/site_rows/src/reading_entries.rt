@@ -94,7 +94,7 @@ pub(crate) fn append<K: Key, V: Drop>(
 fn is_after<K: Key, V>(entries: &BTreeMap<K, V>, key: K) -> bool
     ensures { (v : V) → IsTrue result ↔ T (is_sorted K.cmp (entries.now.entries ++ (key, v) ∷ [])) }
 {
-    // The length shows the proof that the keys ascend.
+    // Brings into scope that the keys ascend.
     let _length = entries.len();
     match entries.last_key_value() {
         Some((last, _)) => last.cmp(&key) == Ordering::Less,

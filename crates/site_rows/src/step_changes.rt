@@ -34,6 +34,9 @@ pub fn changes_of(
     new: &SiteState,
 ) -> Result<RowChanges, AllocError>
     requires no_signal { IsSignal input.now → ⊥ }
+    // The changes lead from the rows before the step to those after it, and the step's effects say how many there are
+    // of each table.
+    // Not covered: that what is kept isn't gone through.
     ensures changes { (old : Record) → Does old input.now effects.now new.now
         → IsUndoOf undo.now old input.now
         → IfOk result (λ changes. AreChangesOf changes effects.now old new.now) }

@@ -2,7 +2,7 @@
 ghost use Rattle.std.specs.Prelude.{◌≡◌};
 ghost use Rattle.site_rows.specs.RecordRows.{kinds_under, version_number};
 
-/// A table of a site's file, in the order in which faults of their rows are told.
+/// A table of a site's file, in the order in which faults of their rows are reported.
 #[derive(Clone, Copy, Debug, PartialEq, Eq)]
 pub enum Table {
     /// The site itself.

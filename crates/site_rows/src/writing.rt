@@ -32,6 +32,7 @@ fn store_rows(alloc: Global, state: &SiteState) -> Result<Sequence<StoreRow>, Al
 /// events are within their limits, and its texts are those of items, sites and plain destinations, in UTF-8. Fails
 /// where memory runs out.
 pub fn rows_of(alloc: Global, state: &SiteState) -> Result<Rows, AllocError>
+    // The rows of a record are exactly those that it stands for.
     ensures rows { IfOk result (λ rows. rows ≡ rows_of state.now) }
     ensures kept { IfOk result (λ _. IsKept state.now) }
     ensures items { IfOk result (λ _. HoldsItems state.now) }

@@ -30,6 +30,7 @@ pub fn records_of_sites_may_be_found<D: Disk + Drop>(site: &StoredSite<D>)
 /// From call to call a crash leaves what is the site's own: the record that it shows, or one in which it may be opened.
 /// These are the record that it showed before a step or a stop, and the one after the input.
 pub fn calls_leave_what_is_the_sites_own<D: Disk>()
+    // Not covered: a reopening that gets no connection.
     ensures leaves { CallsLeaveOwn D.Disk }
     ensures records { CallsKeepToOldOrNew D.Disk }
 {}
@@ -48,6 +49,8 @@ pub fn a_crash_leaves_the_old_or_the_new<D: Disk + Drop>(
     options: Options,
     name: &str,
 ) -> Result<StoredSite<D>, Unfound<D>>
+    // Not covered: that the connection is made, which the database says of its own; that both records have the name is
+    // asked of the caller.
     ensures { LeavesOwn lost.now → AreNamed lost.now name.now → IsAfterCrash lost.now conn
         → OpensAfter lost.now result }
 {

@@ -233,8 +233,18 @@ pub fn open_site<D: Disk + Drop>(
     options: Options,
     name: &str,
 ) -> Result<StoredSite<D>, Unfound<D>>
+    // The site shows a record whose rows are those that the tables list, of a site of that name, with no failure and no
+    // statement counted. Tables of the first version are made those of the second, with the same record, and at each
+    // moment a crash leaves the one version or the other.
+    // Not covered: that it is opened with memory at hand.
     ensures opened { IfOk result (IsOpenedAs conn name.now) }
+    // Each fault says what the tables hold, or why they can't be read.
+    // Not covered: in which table the database failed. `NoMemory` may come at any. A table more makes a file
+    // `NotAStore`.
     ensures refused { IfErr result (λ left. IsNotOpened conn name.now left.conn left.fault) }
+    // Where a crash left the rows of such a record in the tables of a version, and a connection was just made to what
+    // it left, the site is opened in just that record, unless memory runs out or the device fails, or, under the first
+    // version, the second can't be made.
     ensures left { FindsLeft conn name.now result }
 {
     let mut conn = conn;

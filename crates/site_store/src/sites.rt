@@ -93,15 +93,27 @@ impl<D: Disk + Drop> StoredSite<D> {
         options: Options,
         state: SiteState,
     ) -> Result<StoredSite<D>, Unmade<D>>
+        // A site is made with the rows of its record in an empty database: once answered, a crash leaves these rows and
+        // no others.
         ensures shown { IfOk result (λ site. shown_by site ≡ Some state) }
         ensures fresh { IfOk result (λ site. (failed_by site ≡ 0) × (statements_by site ≡ 0)) }
         ensures stored { IfOk result (λ site. IsKeptBy site state) }
+        // From call to call a site keeps what is its own: its tables hold the record that it shows, now and after a
+        // crash; and while it is closed, a crash leaves one of the records in which it may be opened, or did before the
+        // reopenings that failed since.
+        // Not covered: behind a reopening that got no connection it says little by itself; which files there were, each
+        // reopening says of its own (`kind`).
         ensures own { IfOk result KeepsOwn }
         ensures kind { IfErr result (λ left. HindersOpening left.fault) }
+        // Making the tables and writing a step fail only for a reason.
+        // Not covered: that the reason is one of the site's own or of the step's.
         ensures cause { (file_state conn).in_transaction ≡ false
             → (file_state conn).now.schema ≡ no_schema
             → IfErr result (λ left. HasCleanDisk (file_state left.conn)
             → FailsToBegin (file_state conn) (file_state left.conn) left.fault) }
+        // A database with tables, or in a transaction, is refused with `Store` and given back as it was. With any other
+        // fault the connection comes back, too, and a crash leaves what it would have left before, or all tables with
+        // just these rows.
         ensures crash { IfErr result (λ left.
             BeginsAs state (file_state conn) (file_state left.conn)) }
         ensures in_use { IsInUse (file_state conn)
@@ -134,6 +146,10 @@ impl<D: Disk + Drop> StoredSite<D> {
     /// The files, where the log couldn't be copied: it is there, whole or copied in part, and the database says that a crash
     /// leaves nothing new.
     pub fn close(self) -> Result<Files<D>, Files<D>>
+        // Where a crash left just the site's own before, it leaves of the files the record that the site showed, or one
+        // in which it might have been opened, and no third; or the log couldn't be copied, and the database says that a
+        // crash has no new outcome.
+        // Not covered: that the log is copied; and where it couldn't be copied, which rows a crash leaves of the files.
         ensures { ClosesAs self result }
     {
         let StoredSite {
@@ -156,12 +172,14 @@ impl<D: Disk + Drop> StoredSite<D> {
     /// How many rows the last step wrote that had effects, and the two statements that begin and commit. 0 for a step
     /// that changed nothing, and before the first.
     pub fn statements(&self) -> u64
+        // `statements` counts the rows that a step wrote, with the two statements that begin and commit.
         ensures { result ≡ statements_by self.now }
     {
         self.kept.statements
     }
 
-    /// Each record in which it may be opened while it is closed is found where tables list its rows. It is for proofs.
+    /// Each record in which it may be opened while it is closed is found where tables list its rows. It exposes the
+    /// invariant to proofs, and has no effect at run time.
     pub(crate) fn show_records(&self)
         ensures { (r : Record) → MayBy self.now r → MayBeFound r }
     {
@@ -264,6 +282,17 @@ impl<D: Disk + Drop> SiteKeeper for StoredSite<D> {
             → Rises (failed_by self.old) (failed_by self.new) }
         ensures store { result ≡ Err KeepFault.Store → StoreFailed self.new }
         ensures count { failed_by self.old ≤ failed_by self.new }
+        // Where the tables held the rows of its record, a step fails on an honest disk for a cause: with `Device` only
+        // where the disk's own count of its failures rose in the call, and with `Store` only where a database refuses a
+        // command that writes with the error, a row was too large, or memory ran out and nobody could tell whether the
+        // connection is open still.
+        // Not covered: that a step of the site is never refused. A stop has no answer, and so no cause.
+        //
+        // Where the tables held the rows of its record, an honest disk holds after each answer those of the record that
+        // it shows, now and after a crash; or, while it is closed, a crash leaves those of one of the records in which
+        // it may be opened, and no others.
+        //
+        // What changes nothing makes no call of the database.
         ensures kind { AppliesBy self.old input result self.new }
         ensures stored { KeepsOwn self.old → KeepsOwn self.new }
     {
@@ -294,6 +323,20 @@ impl<D: Disk + Drop> SiteKeeper for StoredSite<D> {
             → Rises (failed_by self) (failed_by u.keeper)) }
         ensures count { MatchResult result (λ keeper. failed_by self ≤ failed_by keeper) (λ u.
             failed_by self ≤ failed_by u.keeper) }
+        // `reopen` opens in the record whose rows the tables list, of those in which it may be opened.
+        //
+        // Where it isn't opened it stays closed, in the same records. `Device` comes only where a failure was counted;
+        // and `Store`, once the files have a connection, only where the tables list the rows of none of these records.
+        // Not covered: `Store` where the files got no connection.
+        //
+        // The device is blamed for a reopening only where it failed: over the connection that was made to the files the
+        // disk's own count of its failures rose; or no connection was made, since a sync of one of the files had failed
+        // before, or with an error of the device that the database explains in its own words.
+        //
+        // A reopening that fails leaves of the files what closing and opening them leaves. Where they have a
+        // connection, an honest disk leaves after a crash one of the records that it might leave before, and no other.
+        // Not covered: where they have no connection: the database doesn't say of an opening that failed that the disk
+        // was honest before it.
         ensures kind { ReopensBy self result }
         ensures leaves { IfErr result (λ u. StillLeaves (MayBy self) (link_of self)
             (link_of u.keeper)) }

@@ -98,7 +98,8 @@ impl Standing {
         }
     }
 
-    /// Each record in which it may be opened is found where tables list its rows. It is for proofs.
+    /// Each record in which it may be opened is found where tables list its rows. It exposes the invariant to proofs,
+    /// and has no effect at run time.
     pub fn show_records(&self)
         ensures { AreFound self.now }
     {

@@ -34,6 +34,9 @@ pub fn write_step<S: Alter>(
     conn: &mut Connection<S>,
     changes: &RowChanges,
 ) -> Result<u64, Unwritten>
+    // Once answered the tables hold exactly the rows of the record after the step, after out of memory those of the one
+    // before; after any other error a crash leaves the one or the other and no third. It returns how many rows the
+    // effects count.
     ensures done { (old new : Record) (told : Told) → AreChangesOf changes.now told old new
         → HasCleanDisk (state S.Store conn.new) → Keeps old (state S.Store conn.old)
         → OnOk result (Keeps new (state S.Store conn.new)) }

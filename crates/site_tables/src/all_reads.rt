@@ -259,11 +259,13 @@ fn read_version<S: Alter>(
 }
 
 /// The rows of all tables, each by its keys, where they are those of a version, which the rows name. They are read in
-/// the order in which their faults are told, one row at a time.
+/// the order in which their faults are reported, one row at a time.
 ///
 /// # Errors
 /// Of the first table that can't be read, as [`ReadFault`] says. Nothing is written.
 pub fn read_rows<S: Alter>(alloc: Global, conn: &mut Connection<S>) -> Result<Rows, ReadFault>
+    // All tables are read back, one row at a time: the rows are those that the tables hold, in the order of their keys,
+    // and nothing is changed.
     ensures known { IfOk result (λ rows. (state S.Store conn.old).now.schema
         ≡ schema_under rows.version) }
     ensures rows { OnHonestDisk S.Store conn.new
@@ -271,6 +273,9 @@ pub fn read_rows<S: Alter>(alloc: Global, conn: &mut Connection<S>) -> Result<Ro
         (state S.Store conn.old).now.trees)) }
     ensures same { OnHonestDisk S.Store conn.new
         (OnOk result (IsUnchanged (state S.Store conn.old) (state S.Store conn.new))) }
+    // The faults are exact: other tables, and then nothing was asked; the first row, table by table and by key, for
+    // which no value stands, behind tables that were read whole; or out of memory, a failure of the disk, a connection
+    // that was shut, or a limit on the steps of a query.
     ensures other { ((v : TableVersion) → (state S.Store conn.old).now.schema ≢ schema_under v)
         → (result ≡ Err ReadFault.OtherTables) × (conn.new ≡ conn.old) }
     ensures cause { OnHonestDisk S.Store conn.new

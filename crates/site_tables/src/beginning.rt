@@ -24,10 +24,15 @@ pub fn create_site<S: Alter>(
 ) -> Result<(), Error>
     requires outside { conn.old.in_transaction ≡ false }
     ensures mode { conn.new.in_transaction ≡ false }
+    // All rows of a record are written in an empty database, in one transaction: once answered, a crash leaves these
+    // rows and no others.
+    // Not covered: which texts insert the rows, by eights or one by one.
     ensures stored { OnHonestDisk S.Store conn.new ((state S.Store conn.old).now.schema ≡ no_schema
         → OnOk result (IsStored (contents_of rows.now) (state S.Store conn.new))) }
     ensures cause { OnHonestDisk S.Store conn.new ((state S.Store conn.old).now.schema ≡ no_schema
         → IfErr result (HasReason (state S.Store conn.old) (state S.Store conn.new))) }
+    // While that runs, and after an error, a crash leaves what it would have left before, or all tables with just these
+    // rows, and a database that lists them and nothing else.
     ensures crash { Survives (state S.Store conn.old) (state S.Store conn.new) (λ db.
         (state S.Store conn.old).now.schema ≡ no_schema → Holds (contents_of rows.now) db) }
 {

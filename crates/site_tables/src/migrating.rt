@@ -21,6 +21,9 @@ use sqlite::{Alter, Connection, Error};
 pub fn migrate<S: Alter>(conn: &mut Connection<S>) -> Result<(), Error>
     requires outside { conn.old.in_transaction ≡ false }
     ensures mode { conn.new.in_transaction ≡ false }
+    // In one transaction, whose commit is the last call of the database: once answered, a crash leaves the same rows
+    // under the second version and no others; at each moment, and after an error, those or what it would have left
+    // before.
     ensures done { OnHonestDisk S.Store conn.new ((before : Contents)
         → IsStoredUnder First before (state S.Store conn.old)
         → OnOk result (IsStored (after migrated before) (state S.Store conn.new))) }

@@ -51,13 +51,21 @@ pub fn try_changes<S: Alter>(
     written: &mut u64,
 ) -> Result<(), Left>
     requires outside { conn.old.in_transaction ≡ false }
+    // The rows that the step changes are written in one transaction: once answered, a crash leaves the rows of the new
+    // record and no others.
     ensures done { OnHonestDisk S.Store conn.new ((before : Contents)
         → IsStored before (state S.Store conn.old)
         → OnOk result (IsStored (after (changed changes.now) before) (state S.Store conn.new))) }
+    // After an error a crash leaves those of the old record or of the new one and no third, and of the old one alone
+    // while the connection is open; either way the database lists the site's tables with their indexes, and nothing
+    // else.
     ensures kept { OnHonestDisk S.Store conn.new ((before : Contents)
         → IsStored before (state S.Store conn.old)
         → IfErr result (λ left. (e : _) → left ≡ Left.Kept e
         → IsStored before (state S.Store conn.new))) }
+    // Writing fails only where the store did, for a cause that shows, or where a database refuses a command that writes
+    // with that error, which is one of a list of refusals and none of the disk's or the memory's.
+    // Not covered: that a site's own step is never refused.
     ensures cause { OnHonestDisk S.Store conn.new ((before : Contents)
         → IsStored before (state S.Store conn.old)
         → IfErr result (λ left. HasReason (state S.Store conn.old) (state S.Store conn.new)
@@ -65,6 +73,7 @@ pub fn try_changes<S: Alter>(
     ensures crash { Survives (state S.Store conn.old) (state S.Store conn.new) (λ db.
         (before : Contents) → IsStored before (state S.Store conn.old)
         → Holds (after (changed changes.now) before) db) }
+    // How many rows were written is counted.
     ensures counted { OnOk result (written.new ≡ min 18_446_744_073_709_551_615
         (written.old + rows_written changes.now)) }
 {

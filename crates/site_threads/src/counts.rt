@@ -21,7 +21,7 @@ pub struct RunCounts {
 }
 
 impl RunCounts {
-    /// Of a run of so many sites, before the first turn.
+    /// The counts of a run of `sites` sites, before the first turn.
     pub fn new(sites: u64) -> RunCounts {
         RunCounts {
             sites,

@@ -134,10 +134,10 @@ pub struct DeskOut {
 }
 
 impl Desk {
-    /// A desk that takes so many jobs in its life, 1 to 1,000, and its other end.
+    /// A desk that takes `limit` jobs in its life, 1 to 1,000, and its other end.
     ///
     /// # Errors
-    /// Where there is no memory for it. No other call on a desk takes any.
+    /// Out of memory. No other call on a desk allocates.
     pub fn new(alloc: Global, limit: u64) -> Result<(Desk, DeskOut), AllocError>
         requires { (1 ≤ limit) × (limit ≤ 1000) }
         ensures ends { IfOk result (λ r. IsDesk r.0 × IsOut r.1 × AreEnds r.0 r.1) }
@@ -180,6 +180,7 @@ impl Desk {
     /// `Spent` exactly after as many jobs as the desk takes, and `Gone`; both with the job, and nothing changed.
     pub fn put<R: Wait>(&mut self, rt: &R, job: Job) -> Result<u64, DeskFault>
         requires { IsDesk self.old }
+        // Not covered: `Gone` may come at any time.
         ensures desk { IsDesk self.new × SameDesk self.old self.new }
         ensures heard { hears self.new ≡ hears self.old }
         ensures put { MatchResult result (λ place. (puts self.new ≡ puts self.old ++ job ∷ [])
@@ -247,6 +248,9 @@ impl DeskOut {
         ensures told { (tells self.new ≡ tells self.old) × (self.new.dropped ≡ self.old.dropped) }
         ensures held { IfSome result (λ _. length (takes self.new) < self.new.limit
             → self.new.gone ≡ self.old.gone) }
+        // The call that returns the last job that the desk takes in its life counts the desk as gone, no other call
+        // that returns a job changes that, and what counts as gone stays so.
+        // Not covered: that the channel says so only once the other end was dropped and no job is left.
         ensures gone { IsTrue self.old.gone → IsTrue self.new.gone }
         ensures spent { length (takes self.new) ≡ self.new.limit → IsTrue self.new.gone }
     {
@@ -272,6 +276,9 @@ impl DeskOut {
         requires { IsOut self.old }
         ensures out { IsOut self.new × SameOut self.old self.new }
         ensures taken { (takes self.new ≡ takes self.old) × (self.new.gone ≡ self.old.gone) }
+        // The site sends the receipt of each job that it does, in order, and no other; where its channel reports that
+        // the desk was dropped, none from then on, and its end of the desk says so.
+        // Not covered: that the channel says so only once the desk was dropped.
         ensures told { SendsReceipt self.old receipt self.new }
     {
         if self.dropped {

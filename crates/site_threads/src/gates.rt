@@ -21,6 +21,7 @@ pub trait Gate: Drop {
     /// Asked before each turn, which is counted from 1. It may look at what other sites do, and so keep them in step,
     /// but it waits for nobody.
     fn enter(&mut self, site: SiteNo, turn: u64) -> Pass
+        // Not covered: when a gate that may give up does.
         ensures { result ≡ Pass.GiveUp → gives_up self.old site turn };
 
     /// Told, before it is asked, how many messages of the site wait for a signal; not while its keeper is closed. A

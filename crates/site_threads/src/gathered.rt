@@ -92,8 +92,14 @@ impl RunLog {
     pub fn settle(self, desk: Desk) -> u64
         requires desk { IsDesk desk × AreEnds desk self.out }
         requires jobs { FitsEnd self }
+        // The jobs that the site's end took are the first ones put, in order.
+        // Not covered: that a job is taken.
         ensures jobs { (result ≡ length (jobs_in self.entries.items))
             × (jobs_in self.entries.items ≡ take result (puts desk)) }
+        // The receipts that came from a desk are the first ones of those of its site's list, in order: the site, the
+        // number of the step, the job and the reply. So each of them is confirmed.
+        // Not covered: when a receipt comes: a desk that always reports that the other end was dropped meets the
+        // clauses.
         ensures heard { AreFirst (hears desk) (receipts_in self.site self.entries.items) }
         ensures confirmed { All (IsEntered self.entries.items) (hears desk) }
     {

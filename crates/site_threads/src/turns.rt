@@ -77,22 +77,51 @@ impl<K: SiteKeeper, G: Gate> RunningSite<'_, K, G> {
         ensures same { Continues K.stored 18 (at_next_turn self.old) self.new }
         ensures job { IfOk result (λ report. (option_map (λ x. x.job) report.receipt ≡ job)
             × IfSome report.receipt (λ x. x.site ≡ self.old.me)) }
+        // A step of a turn is a stop exactly where the keeper is closed after it, and no step of that turn comes behind
+        // it.
+        //
+        // All other sites are asked where the keeper is open after the turn, none where it is closed after the job, and
+        // else all up to the one whose frame it stopped in.
+        //
+        // The frames that it notes from the wire are for it, at most one from each other site; as many steps as it
+        // counts come of them, and those that it counts as lost are the others.
         ensures entered { IfOk result (TakesAfterJob K.shown self.old self.new) }
+        // The frame for another site is the signal of the message that was taken from there in this turn, where the
+        // record that the keeper shows makes it emittable; else the message that waits for a signal of that site and
+        // has the least number behind the message posted there last; else the one of the least number of all.
+        //
+        // Just these frames are offered, ascending by site, but for so many as are counted for want of memory for their
+        // copies; none while the keeper is closed. Those that went are the frames sent, as many as are counted. Each
+        // goes from the site to another, and the record makes it emittable.
+        // Not covered: that memory ran out for a copy that is counted so: no clause of an allocation says when it
+        // fails.
         ensures sent { IfOk result (PostsAfterTaking K.shown self.old self.new) }
+        // A job's reply says what the keeper was asked and returned, by what its kind promises.
+        //
+        // From there on the keeper was asked for the step of each frame that was noted, one after another. The step was
+        // entered with what is reported of the answer; or memory ran out, for a frame for which the keeper copies its
+        // record, and that frame is lost. No other is.
+        // Not covered: when a keeper answers that memory ran out: that is said by its kind.
         ensures answers { IfOk result (AnswersInTurn K.shown K.may K.applies K.reopens self.old
             self.new) }
+        // A turn that is done adds the job with its reply, and its receipt names just that step; and then one step for
+        // each frame that it counts, and nothing else.
         ensures jobs { IfOk result (λ report. jobs_in self.new.entries ≡ jobs_in self.old.entries ++
             option_items job) }
         ensures receipts { IfOk result (λ report. receipts_in self.old.me self.new.entries
             ≡ receipts_in self.old.me self.old.entries ++ option_items report.receipt) }
         ensures posted { IfOk result (λ report. report.posted +
             report.uncopied ≤ self.old.wire.sites) }
+        // A turn that isn't made (`NoMemory`, `GaveUp`, `Lost`) gives its job back, asks nobody, offers, notes and
+        // sends no frame, and leaves the list, and an open keeper's record, as they were.
         ensures back { IfErr result (λ fault. (fault.job ≡ job)
             × (self.new.entries ≡ self.old.entries)
             × PassNothing self.old self.new) }
         ensures unchanged { IfErr result (λ fault. (r : Record)
             → shown_if K.shown self.old.keeper ≡ Some r → shown_if K.shown self.new.keeper ≡ Some
             r) }
+        // `GaveUp` comes only where the gate, asked for that turn, gave up by the meaning that its kind gives to that;
+        // and `Lost` only where the keeper was closed and `reopen` refused it, for another reason than memory.
         ensures why { IfErr result (λ fault. HindersTurn K.shown K.reopens G.gives_up fault.cause
             self.old.gate self.new.me self.new.turns self.old.keeper self.new.keeper) }
     {

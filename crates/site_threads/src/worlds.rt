@@ -228,39 +228,27 @@ fn run_sites<K: SiteKeeper + Send, G: Gate + Send, R: Threads + Wait + Clock + S
     told(ended, counts.are_shared())
 }
 
-/// Runs all sites, each in a thread of its own, where one can be made: so many turns, each asked for at the site's
-/// gate, with at most one job a turn from the site's end of its desk, and a last opening of each keeper that is closed
-/// then. Where the system gives fewer threads than sites, sites that share one take turns, so that recalls end then,
-/// too.
+/// Runs all sites, each in a thread of its own, where one can be made: `turns` turns, each asked for at the site's
+/// gate, with at most one job a turn from the site's end of its desk; and at the end each keeper that is closed is
+/// opened once more. Where the system gives fewer threads than sites, sites that share one take turns, so that recalls
+/// still end.
 ///
-/// After a turn in which a site did no job and its record didn't change it sleeps, 100 microseconds for each such turn
-/// one after another and at most 1,000, so that a run lasts while other sites begin or write; where sites share
-/// threads, it leaves its thread to others. A run ends before its turns are made once nothing is left to do: each desk
-/// counts as gone, and each recall that a site began has ended. A site that isn't done makes all turns. So a gate that
-/// waits for other sites needs the other end of a desk to be kept, and a desk that would take one job more; and it
-/// needs a thread for each site.
+/// After a turn in which a site did no job and its record didn't change it sleeps, 100 microseconds longer each time
+/// and at most 1,000, so that a run lasts while other sites begin or write; where sites share threads, it leaves its
+/// thread to others instead. A run ends before its turns are made once nothing is left to do: each desk counts as gone,
+/// and each recall that a site began has ended. So a gate that waits for other sites needs a thread for each site, and
+/// a desk that is kept and would take one job more.
 ///
 /// The keepers are of one list of sites, in the order of their numbers, open, and their records are consistent; no job
-/// was taken from the desks. Afterwards each keeper is open in the record to which its list of steps leads from the one
-/// that it began with, and the jobs of the list are the first ones that were put at its desk; its gate was asked for
-/// just these turns, or for fewer where the site is done: its end counts the desk as gone, no job is in hand, no
-/// message waits for a signal, and each recall that it began has ended. What the sites did together is a run of the
-/// world, as [`World::run`] makes them: steps that were done, and frames that were sent, lead one after another from
-/// the records that the keepers showed to those that they show; and what the run hands to a site are the steps of the
-/// site's list in which its record changed, in order. It comes out as that of [`World::run`] does: at each moment of it
-/// what is quarantined under a recall that has ended is just what its root reaches, and stays so. Whether the run has
-/// an answer or not, in whichever records the keepers are open, or may be opened, these make a world again, which
-/// [`World::new`] takes. What the keepers stored before, they store.
+/// was taken from the desks.
 ///
 /// # Errors
 /// All with the keepers. `NotAWorld`, with the keepers as they were. `NoMemory`: before the first turn, when nothing
 /// has changed, or where a keeper couldn't be opened at the end. `SiteLost` where a keeper is closed and an opening of
 /// it was refused, and `GaveUp` where a gate, asked for one of these turns, gave up: the other sites went on. Of
-/// several sites that ended their runs the least is named; the keepers before it are open.
+/// several sites that ended their runs the least is named.
 ///
-/// Once a turn was begun, a fault has the list of each site, too: its steps lead to the record that its keeper shows,
-/// or, where it is closed, to the last one, in which the site stopped; and what the sites did is a run of the world in
-/// the same way. So a receipt is confirmed there as well, and the jobs that were taken are those of the list. Of each
+/// Once a turn was begun, a fault has the list of each site, too, so that receipts are confirmed there as well. Of each
 /// site that ended its run the list says why.
 pub fn run_world<K: SiteKeeper + Send, G: Gate + Send, R: Threads + Wait + Clock + Sync>(
     rt: &R,
@@ -274,9 +262,40 @@ pub fn run_world<K: SiteKeeper + Send, G: Gate + Send, R: Threads + Wait + Clock
     requires desks { (length desks.items ≡ length keepers.items) × All IsUnused desks.items }
     requires gates { length gates.items ≡ length keepers.items }
     requires turns { turns ≤ 1000000 }
+    // Each keeper is open afterwards, in the record to which its site's list leads, step by step, from the one that it
+    // began with.
+    // Not covered: which frames: of a frame's step the list has the input for proofs alone, so that it is said that
+    // there are frames by which the record comes about.
+    //
+    // What the sites did together is a run of the world: steps that were done, and frames that were sent, lead from the
+    // records that the keepers showed, with no frame sent, to those that they show. What the run hands to a site are
+    // the inputs of the steps of its list in which its record changed, in order. It comes out as the headline says.
+    // Not covered: in which order steps of different sites came.
+    //
+    // The lists come in the order of the sites. The jobs of a list, with one at the end that was taken and not done,
+    // are those that were taken from the desk, in order; and the list has the end of that desk.
+    //
+    // The list says how many turns the site's gate was asked for: as many as the run was to make; or fewer where the
+    // site is done, which is that its end counts the desk as gone, no job is in hand, no message waits for a signal,
+    // and each recall that it began has ended.
+    // Not covered: a body that sets the count and asks no gate meets the clause.
     ensures ran { IfOk result (HaveRun K.shown K.may turns keepers.items desks.items) }
+    // Keepers that make no world come back as they were (`NotAWorld`).
+    //
+    // Where a site is lost (`SiteLost`), a gate gave up (`GaveUp`) or memory ran out, all keepers come back. A lost
+    // site is the least that is closed; before the site of a gate that gave up all keepers are open.
+    //
+    // The cause is that of the least site that ended its run, by the lists.
+    //
+    // A fault comes with no list and with the keepers as they were; or with the list of each site that began so, with
+    // its end of the desk, so that its receipts are confirmed there, and with how many turns its gate was asked for.
+    //
+    // In every case but `NotAWorld`, in whichever records the keepers are open, or may be opened, these make a world
+    // again, and what is quarantined under each recall that has ended is just what its root reaches.
     ensures fault { IfErr result (WereHindered K.shown K.may K.reopens G.gives_up turns
         keepers.items desks.items) }
+    // In every case, where a crash leaves on each device what the keeper shows, or may be opened in, it does so
+    // afterwards.
     ensures stored { All K.stored keepers.items → All K.stored (keepers_of result) }
     ensures back { length (keepers_of result) ≡ length keepers.items }
 {

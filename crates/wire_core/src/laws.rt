@@ -27,6 +27,8 @@ pub fn a_run_fits_and_stands()
 /// seats together show where a run of the world leads from the records at the start, in which the records last marked
 /// are consistent with all frames sent.
 pub fn the_rule_holds_between_steps()
+    // Not covered: in which order events of different sites stand in the run; inputs that were refused, and steps in
+    // which a site stopped and that were not kept, are no events of it.
     ensures { RuleHoldsBetween }
 {}
 

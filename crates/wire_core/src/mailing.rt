@@ -29,7 +29,7 @@ impl Wire {
     /// that holds all of them.
     ///
     /// # Errors
-    /// Where there is no memory for it. No other call on a wire takes any.
+    /// Out of memory. No other call on a wire allocates.
     pub fn new(alloc: Global, records: &[&SiteState]) -> Result<(Wire, Seat), AllocError>
         requires fit { RecordsFit (records_at records.now) [] }
         requires count { (2 ≤ length records.now) × (length records.now ≤ MAX_SITES) }
@@ -58,6 +58,7 @@ impl Wire {
     pub fn post(&self, seat: &mut Seat, frame: Frame) -> Post
         requires seat { IsSeatOf self.now seat.old }
         requires may { MayPost self.now.sites frame seat.old.logs }
+        // Not covered: in which order sites move.
         ensures seat { IsSeatOf self.now seat.new }
         ensures answer { MatchPost result
             ((seat.new.logs ≡ on (sender frame) (sends frame) seat.old.logs)
@@ -74,6 +75,7 @@ impl Wire {
     pub fn take(&self, seat: &mut Seat, me: SiteNo, other: SiteNo) -> Option<Frame>
         requires seat { IsSeatOf self.now seat.old }
         requires may { MayTake self.now.sites me other seat.old.logs }
+        // Not covered: that a full mailbox is ever emptied.
         ensures seat { IsSeatOf self.now seat.new }
         ensures answer { MatchOption result ((seat.new.logs ≡ on me (asks other) seat.old.logs)
             × Level other me seat.old.logs)
@@ -123,6 +125,7 @@ impl Wire {
     /// that were posted. What still lies in a mailbox is lost.
     pub fn close(self, seat: Seat)
         requires { IsSeatOf self seat × HoldsAll self.sites seat.logs }
+        // What the sites did is a run of the world, from the records that the wire was made with.
         ensures { (all : List Log) × AreAllLogs self.sites seat.logs all × Gathered self.start all }
     {
         let Wire { table } = self;

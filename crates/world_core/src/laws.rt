@@ -67,10 +67,11 @@ pub fn frames_were_emittable()
 /// After every run from sites at which nothing happened yet a recall has as many messages as there are shipments of
 /// what is quarantined under it: each shipment is announced by one message, however often its frame was sent.
 pub fn messages_are_counted()
+    // Not covered: which message is of which shipment.
     ensures { MessagesAreCounted }
 {}
 
-/// The end that is told is the one that the headline speaks of. It comes by a step that is answered by it, or by a
+/// The end that is reported is the one that the headline speaks of. It comes by a step that is answered by it, or by a
 /// start whose answer says so, and by no other.
 pub fn an_end_is_told()
     ensures told { EndsAreTold }
@@ -87,6 +88,7 @@ pub fn runs_make_a_world_again()
 /// Sites at which nothing happened yet are going, every run keeps them so, and of sites that are going no recall that
 /// was begun is stuck: as long as numbers are left, sends and deliveries end it, once closed sites are opened.
 pub fn a_recall_can_end()
+    // Not covered: that a run does end one.
     ensures fresh { FreshSitesAreGoing }
     ensures run { RunsKeepGoing }
     ensures ends { EveryRecallCanEnd }

@@ -77,8 +77,10 @@ impl<K: SiteKeeper> World<K> {
 
     /// One event, and its answer.
     pub fn turn(&mut self, event: WorldEvent) -> Answer
+        // `turn` is one event of the definition, in each world that closed keepers may be.
         ensures world { Become K.shown K.may self.old self.new
             (λ old new. Turns old event result new) }
+        // What a crash leaves on the sites' devices is handed on by each event and each run.
         ensures stored { AreStored K.stored self.old.keepers → AreStored K.stored self.new.keepers }
         // For a caller that knows what this kind of keeper promises.
         ensures kind { KeepersTurn K.shown K.applies K.stops K.reopens
@@ -91,6 +93,7 @@ impl<K: SiteKeeper> World<K> {
     /// record of the site makes emittable; `NoFrame` where it makes none of that name so. It looks that frame up, and
     /// doesn't go through those before it.
     pub fn post(&mut self, site: SiteNo, name: FrameName) -> Answer
+        // Not covered: that it looks the frame up and doesn't go through those before it.
         ensures { (place : ℕ) × IsPlaceAt K.shown self.old.keepers site name place
             × Become K.shown K.may self.old self.new
             (λ old new. Turns old (WorldEvent.Send site place) result new)
@@ -110,6 +113,9 @@ impl<K: SiteKeeper> World<K> {
     /// # Errors
     /// Where there is no room for all answers: before the first event, and nothing changes.
     pub fn run(&mut self, events: Vec<WorldEvent>) -> Result<Vec<Answer>, AllocError>
+        // The headline, field by field: the run, each site's steps, the frames, the ended recalls at each moment, and
+        // that the sites started again make a world again.
+        // Not covered: that a run ends a recall: only that one can.
         ensures headline { IfOk result (λ answers. Become K.shown K.may self.old self.new
             (λ old new. ComesOut old events.items answers.items new)) }
         ensures stored { AreStored K.stored self.old.keepers → AreStored K.stored self.new.keepers }
@@ -169,11 +175,13 @@ impl<K: SiteKeeper> World<K> {
         ended_at(self.view(recall.site)?, recall)
     }
 
-    /// The sites may be some world: what is said of each that they may be isn't said of none. Each is consistent, and
-    /// its records make a world again once the sites are started again, when no frame is in flight.
+    /// At least one world is possible, so claims about all of them aren't vacuous. Each is consistent, and its records
+    /// make a world again once the sites are started again, when no frame is in flight.
     pub fn stands(&self)
         ensures some { (world : WorldState) × MayBe K.shown K.may self.now world }
         ensures fits { SitesFit K.shown K.may self.now }
+        // All sites started again, in whatever records they may be opened, make a world again, in which no frame is in
+        // flight.
         ensures again { MakeAWorldAgain K.shown K.may self.now }
     {
         let _ = &self.keepers;
