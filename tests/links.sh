@@ -1,12 +1,14 @@
 #!/usr/bin/env bash
 # Resolves each relative link of the repository's Markdown files: the file is there, `#heading` is a heading of a
-# Markdown file, and `#name` behind a source (.rt, .antt) is defined in that source. In tables with the columns
-# Function and Clause it also looks whether the function's contract has these clauses.
+# Markdown file, and `#name` behind a source (.rt, .antt) is defined in that source.
 # Prints each link that doesn't resolve and how many there are in all. Exit 1 where one doesn't, or where there is none,
-# or where docs/img/crates.svg isn't the picture of crates.txt any more.
+# or where docs/img/crates.svg isn't the picture of crates.txt any more, or docs/claims and
+# docs/DEFINITIONS.md aren't what the sources say.
 set -u
 cd "$(dirname "$0")/.." || exit 2
 python3 docs/img/crates.py --check || exit 1
+python3 docs/claims.py --check || exit 1
+python3 docs/definitions.py --check || exit 1
 exec python3 - "$@" <<'PYTHON'
 import os
 import re
@@ -134,49 +136,6 @@ def links_of(document):
                     yield number, ('/' if os.path.exists(file) else '') + span.group(2)
 
 
-def contracts_of(path, name):
-    """The lines of each contract of a function of this name, up to its body."""
-    lines = lines_of(path)
-    for start, line in enumerate(lines):
-        if re.search(r'\bfn\s+%s(?!\w)' % re.escape(name), line):
-            end, depth = start, 0
-            while end < len(lines) and not re.match(r'\s*\{\}?\s*$', lines[end]) \
-                    and not (end > start and re.match(r'\s*(?:pub )?fn\b', lines[end])):
-                # (a record within a clause has lines that end so, too)
-                depth += lines[end].count('{') - lines[end].count('}')
-                if depth == 0 and lines[end].rstrip().endswith(';'):
-                    break
-                end += 1
-            yield '\n'.join(lines[start:end + 1])
-
-
-def cells_of(line):
-    return [cell.strip() for cell in re.split(r'(?<!\\)\|', line.strip().strip('|'))]
-
-
-def clauses_of(document):
-    """The functions of a table's rows with the clauses that the rows name."""
-    columns = None
-    for number, line in prose_of(document):
-        if not line.lstrip().startswith('|'):
-            columns = None
-            continue
-        cells = cells_of(line)
-        if 'Function' in cells and 'Clause' in cells:
-            columns = cells.index('Function'), cells.index('Clause')
-        elif columns and len(cells) > max(columns):
-            functions = [t for t in LINK.findall(cells[columns[0]]) if '.rt#' in t]
-            labels = [span.group(2) for span in CODE.finditer(cells[columns[1]])]
-            if functions and labels:
-                yield number, functions, labels
-
-
-def has_clause(contract, label):
-    if label == 'ensures':
-        return re.search(r'\bensures\s*\{', contract)
-    return re.search(r'\b(?:ensures|requires)\s+%s\s*\{' % re.escape(label), contract)
-
-
 count, faults = 0, []
 for document in markdown_files():
     for number, target in links_of(document):
@@ -186,16 +145,6 @@ for document in markdown_files():
         fault = fault_of(document, target)
         if fault:
             faults.append('%s:%d: %s: %s' % (document, number, target, fault))
-    for number, functions, labels in clauses_of(document):
-        contracts = []
-        for target in functions:
-            path, _, name = target.partition('#')
-            path = os.path.normpath(os.path.join(os.path.dirname(document), path))
-            if os.path.exists(path):
-                contracts.extend(contracts_of(path, name))
-        for label in labels:
-            if contracts and not any(has_clause(contract, label) for contract in contracts):
-                faults.append('%s:%d: `%s`: no clause of %s' % (document, number, label, functions[0]))
 
 for fault in faults:
     print(fault)

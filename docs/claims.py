@@ -1,0 +1,263 @@
+#!/usr/bin/env python3
+"""Makes docs/claims/CRATE.md from the sources: what the contracts of a crate's public functions claim.
+
+    python3 docs/claims.py            writes the pages
+    python3 docs/claims.py --check    says which of them aren't what the sources say any more
+
+A claim is the `//` lines directly above a clause of a contract, or above a ghost member of an impl. It stands for that
+clause and for those behind it, up to the next claim; a line `//` alone parts two claims of one clause. Of the clauses above
+the first claim the doc comment's first sentence is said, of a law its first paragraph. Behind `Not covered:` stands what
+the clauses leave open. A function without a claim, whose contract names definitions, is listed by its name.
+
+The names of functions and clauses come from the sources, and of a definition it is tested that its file has it.
+"""
+import glob
+import os
+import re
+import sys
+
+ROOT = os.path.join(os.path.dirname(os.path.abspath(__file__)), '..')
+USE = re.compile(r'(?m)^ *ghost use Rattle\.(\w+)\.specs\.([\w.]+)\.\{([^}]*)\};')
+FUNCTION = re.compile(r'( *)(pub )?fn (\w+)')
+CLAUSE = re.compile(r' *(?:ensures|requires|ghost) ?(\w*) ?(?:= )?\{')
+REQUIRED = re.compile(r' *requires\b')
+BLOCK = re.compile(r'(?:pub )?(?:trait (\w+)|impl\b(?:<.*?> (?=\w))?(?:.* for )?\s*(\w+))')
+DEFINED = r'(?m)^ *(?:(?:pub|abbrev|unfoldable|opaque|record|data) +)*%s(?=[\s:({])'
+# A definition that more laws than these speak of isn't one that each of them pins.
+MOST_LAWS = 9
+
+
+def read(path):
+    with open(os.path.join(ROOT, path), encoding='utf-8') as file:
+        return file.read()
+
+
+def found(pattern):
+    return [os.path.relpath(path, ROOT) for path in sorted(glob.glob(os.path.join(ROOT, pattern)))]
+
+
+def stem(path):
+    return os.path.splitext(os.path.basename(path))[0]
+
+
+def crates():
+    """The libraries of crates.txt, but for those of tests."""
+    names = [line.split(':')[0].split()[0] for line in read('crates.txt').split('\n') if ':' in line and line[0] != '#']
+    return [name for name in names if not name.endswith('_tests') and found(f'crates/{name}/src/lib.rt')]
+
+
+def exports(crate):
+    """The names that a crate's root gives out, modules among them."""
+    text = read(f'crates/{crate}/src/lib.rt')
+    used = re.findall(r'(?ms)^pub use \w[\w:]*?::(\w+|\{[^}]*\});', text)
+    return set(re.findall(r'\w+', ' '.join(used))) | set(re.findall(r'(?m)^pub mod (\w+);', text))
+
+
+class Function:
+    """A function and its contract; or a type, and the ghost members of an impl that have claims."""
+
+    def __init__(self, path, name, owner, doc, contract, body):
+        self.path, self.name, self.owner, self.body = path, name, owner, body
+        self.title, self.is_law = '::'.join(word for word in (owner, name) if word), path.endswith('laws.rt')
+        self.claims, said = [], []  # each claim: its words, the labels of its clauses, their text, whether it is written there
+        for line in contract:
+            clause = CLAUSE.match(line)
+            if line.strip().startswith('//'):
+                said.append(line.strip()[2:].strip())
+                continue
+            if clause and said and self.claims and said[0].startswith('Not covered:'):
+                self.claims[-1][0] += ' ' + ' '.join(said)
+            elif clause and (said or not self.claims):
+                words = [' '.join(part.split('\n')) for part in '\n'.join(said).split('\n\n')]
+                words[0] = words[0] if said and not said[0].startswith('Not covered:') else f'{doc or "As its trait says"}. {words[0]}'.strip()
+                self.claims.append(['<br>'.join(words), [], '', bool(said)])
+            if clause:
+                said, required = [], REQUIRED.match(line)
+                self.claims[-1][1] += [] if required else [clause.group(1) or 'ensures']
+            self.claims[-1][2] += '' if required else f'\n{line}'
+        self.claims = [claim for claim in self.claims if claim[1]]
+
+
+def without_links(text):
+    return re.sub(r'\[(`[^`]*`)\](?:\([^)]*\))?', r'\1', text)
+
+
+def said_first(lines, whole):
+    """The first sentence of a doc comment, or its whole first paragraph."""
+    text = '\n'.join(line.strip()[3:].strip() for line in lines if line.strip().startswith('///'))
+    text = ' '.join(re.split(r'\n\n|\n- ', text)[0].split('\n'))
+    text = without_links(text)
+    return (text if whole else re.split(r'(?<=[.:])\s+(?=[A-Z#`-])', text)[0]).rstrip('.:')
+
+
+def functions(path):
+    """The functions of a source that others may call, where their types and modules are public."""
+    lines, owner, head = read(path).split('\n'), None, ''
+    for at, line in enumerate(lines):
+        if re.match(r'(?:pub )?(?:trait|impl)\b', line):
+            block = BLOCK.match(line)
+            owner, head = next((name for name in block.groups() if name), None) if block else None, line
+        elif line.startswith('}'):
+            owner = None
+        ghost = re.match(r'    ghost (?!use)', line) and ' = {' in line and ' for ' in head and 'Model for' not in head
+        match = FUNCTION.match(line)
+        first, end = at, at + 1
+        if ghost and lines[at - 1].startswith('    //'):
+            while lines[first - 1].startswith('    //'):
+                first -= 1
+            while not lines[end - 1].endswith('};'):
+                end += 1
+            yield Function(path, owner, None, '', lines[first:end], '')
+        elif match:
+            indent = match.group(1)
+            clause = re.compile(indent + r'    (?:ensures|requires|//)')
+            while not (lines[end - 1].endswith(('{', '{}', ';')) or lines[end].startswith(indent + '{') or clause.match(lines[end])):
+                end += 1
+            start = end
+            while clause.match(lines[end]) and not lines[end - 1].endswith('};'):
+                depth = lines[end].count('{') - lines[end].count('}')
+                end += 1
+                while depth > 0 and not lines[end - 1].strip().startswith('//'):
+                    depth += lines[end].count('{') - lines[end].count('}')
+                    end += 1
+            last = end
+            while not lines[end - 1].endswith(';') and not lines[last].startswith((indent + '}', indent + '{}')):
+                last += 1
+            while lines[first - 1].strip().startswith(('///', '#[')):
+                first -= 1
+            said = any(it.strip().startswith('// ') for it in lines[start:end])
+            if match.group(2) or indent and ('trait' in head or said):
+                yield Function(path, match.group(3), owner if indent else None, said_first(lines[first:at], 'laws' in path),
+                               lines[start:end], '\n'.join(lines[at:last]))
+
+
+def definitions(path, text):
+    """The capitalised names of specs that a text of a source cites, each with the file that defines it."""
+    known = {}
+    for crate, module, names in USE.findall(read(path)):
+        for name in names.split(','):
+            if name.strip():
+                known[name.split()[-1]] = name.split()[0], f'crates/{crate}/specs/{module.replace(".", "/")}.antt'
+    cited = [known[name] for name in re.findall(r'(?<![\w.])[A-Z]\w*', text) if name in known]
+    return {name: file for name, file in cited if found(file)}
+
+
+def statement(file, name):
+    """The text of a definition of specs."""
+    parts = re.split(r'(?m)^(?= *(?:pub |abbrev |unfoldable |opaque |record |data )+[^\s:({]+)', read(file))
+    return next((part for part in parts if re.match(r' *(?:\w+ )+?%s(?!\w)' % re.escape(name), part)), '')
+
+
+def laws(crate):
+    """The laws of a crate, each with what it speaks of: what it cites, and what that names in its own statement."""
+    for path in found(f'crates/{crate}/src/*laws.rt'):
+        for law in functions(path):
+            cited = definitions(path, ''.join(text for _, _, text, _ in law.claims))
+            yield law, set(cited).union(*(re.findall(r'\b[A-Z]\w*', statement(file, name)) for name, file in cited.items()))
+
+
+def edits(crate):
+    """The edits of a crate's mutants, each with the source and a text that it changes."""
+    for path in found(f'crates/{crate}/must-fail/*.edit') + found(f'tests/mutants/{crate}/*.edit'):
+        file = ''
+        for word, rest in re.findall(r'(?m)^(file|old): (.*)$', read(path)):
+            file = rest.strip() if word == 'file' else file
+            if word == 'old':
+                yield path, f'crates/{crate}/{file}', rest
+
+
+def purpose(crate):
+    """The first paragraph of a crate's root file."""
+    lines = re.match(r'(?://!.*\n)+', read(f'crates/{crate}/src/lib.rt')).group(0).split('\n//!\n')[0].split('\n')
+    return without_links(' '.join(line[3:].strip() for line in lines).strip())
+
+
+def stated(crate, names):
+    """Definitions by their files, as sources name them: `Turns.{Runs, Turns}`. Other crates' stand only where none is its own."""
+    files = {}
+    own = {name: file for name, file in names.items() if f'crates/{crate}/specs/' in file}
+    for name, file in (own or names).items():
+        assert re.search(DEFINED % re.escape(name), read(file)), f'{file} defines no {name}'
+        owner, module = file.removeprefix('crates/').removesuffix('.antt').split('/specs/')
+        files.setdefault(module if owner == crate else f'{owner}.{module}', []).append(name)
+    return ', '.join(f'{file}.{{{", ".join(names)}}}' if len(names) > 1 else f'{file}.{names[0]}' for file, names in files.items())
+
+
+def entry(crate, one, claims, pins):
+    """A function and what it claims: one line, or one for each claim below it."""
+    rows = []
+    for words, labels, _, _, by in claims:
+        *above, last = re.sub(r'Not covered: ((?:(?!<br>).)*)', r'*Not covered: \1*', words).split('<br>')
+        marks = ', '.join(label for label in labels if label != 'ensures' and not one.is_law)
+        by = pins and f' Pins `{pins}`.' if one.is_law else by and f' By `{stated(crate, by)}`.'
+        rows += [('', text, '') for text in above] + [(marks and f'`{marks}`', last, by or '')]
+    if len(rows) == 1:
+        marks, words, by = rows[0]
+        return [f'- `{one.title}`{marks and f" ({marks})"}: {words}{by}']
+    return [f'- `{one.title}`', *(f'  - {marks and f"{marks}: "}{words}{by}' for marks, words, by in rows)]
+
+
+def mutants(crate):
+    """Each mutant that the check has to refuse, by its folder, with the function that it changes."""
+    folders = {}
+    for path, file, old in edits(crate):
+        folder, name = os.path.split(path.removesuffix('.edit'))
+        title = next((one.title for one in functions(file) if old in one.body), None)
+        known = folders.setdefault(folder, {})
+        known[name] = title or known.get(name)
+    for folder, names in folders.items():
+        of = ', '.join(f'`{name}`{f" of `{title}`" if title else ""}' for name, title in names.items())
+        yield f'- [{"in turn" if folder.startswith("tests") else "in each run of CI"}](../../{folder}): {of}'
+
+
+def page(crate):
+    names, pinned = exports(crate), {law.name: of for law, of in laws(crate)}
+    public, plain, own = {}, [], set()  # the claims by file; who has but a doc comment; the crate's definitions that they cite
+    for path in found(f'crates/{crate}/src/*.rt'):
+        for one in functions(path):
+            claims = [(*claim, definitions(path, claim[2])) for claim in one.claims]
+            claims = [claim for claim in claims if claim[3] or claim[4]]
+            if not claims or not names & {stem(path), one.owner or one.name}:
+                continue
+            if one.is_law or any(claim[3] for claim in claims):
+                ones = public.setdefault(path, [])
+                if ones and ones[-1][0].title == one.title:
+                    ones[-1][1].extend(claims)
+                else:
+                    ones.append((one, claims))
+            else:
+                plain.append(one.title if one.owner else f'{stem(path)}::{one.title}')
+            if not one.is_law:
+                own |= {name for claim in claims for name, file in claim[4].items() if f'crates/{crate}/specs/' in file}
+    if not public and not plain:
+        return None
+    own = {name for name in own if sum(name in of for of in pinned.values()) <= MOST_LAWS}
+    out = [f'# Claims of `{crate}`', '', f'{purpose(crate)} [How to read this](../PROOFS.md#how-to-read-the-claims).', '']
+    for path in sorted(public, key=lambda path: (path.endswith('laws.rt'), path)):
+        out += [f'## [{stem(path)}](../../{path})', '']
+        for one, claims in public[path]:
+            out += entry(crate, one, claims, ', '.join(sorted(own & pinned[one.name])) if one.is_law else '')
+        out += ['']
+    out += ['## Claimed by doc comments', '', f'`{", ".join(plain)}`', ''] if plain else []
+    refused = list(mutants(crate))
+    out += ['## Mutants that the check refuses', '', *refused, ''] if refused else []
+    return '\n'.join(out)
+
+
+def main():
+    folder = os.path.join(ROOT, 'docs/claims')
+    os.makedirs(folder, exist_ok=True)
+    pages = {f'{crate}.md': page(crate) for crate in crates()}
+    pages = {name: text for name, text in pages.items() if text}
+    stale = sorted(set(os.listdir(folder)) - set(pages))
+    if sys.argv[1:] == ['--check']:
+        stale += [name for name in pages if not found(f'docs/claims/{name}') or read(f'docs/claims/{name}') != pages[name]]
+        sys.exit(f'docs/claims: {", ".join(stale)} not as the sources say: run docs/claims.py' if stale else 0)
+    for name in stale:
+        os.remove(os.path.join(folder, name))
+    for name, text in pages.items():
+        with open(os.path.join(folder, name), 'w', encoding='utf-8') as file:
+            file.write(text)
+
+
+main()
