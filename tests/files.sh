@@ -237,6 +237,10 @@ fi
 cp chain/shop-1.db chain/shop-1.db-wal damaged
 wants 4 'misfit 2 shop-1' '' audit damaged
 wants 4 'misfit 2 shop-1' '' run damaged
+for words in 'status damaged' 'status damaged dairy#1' 'report damaged dairy#1' "trace damaged dairy $tank" "trace damaged dairy $tank --back"; do
+    "$recall" $words >out 2>err </dev/null
+    [ $? = 0 ] && grep -q '^note: misfit 2 shop-1: ' err || { echo "no misfit is told beside $words: $(cat err)" >&2; failed=1; }
+done
 damaged
 "$recall" report damaged 'dairy#1' >/dev/full 2>err
 [ $? = 3 ] && [ "$(cat err)" = "$(explained report '' 'fault Write')" ] || { echo "a full output: $(cat err)" >&2; failed=1; }

@@ -20,13 +20,13 @@ complain() {
 
 version=$("$recall" --version 2>&1)
 case "$version" in
-'recall '[0-9]*.[0-9]*.[0-9]*' (site files of version '[0-9]*', proved with rattle-kit-'*' logic '*')') ;;
+'recall '[0-9]*.[0-9]*.[0-9]*' (site files of version '[0-9]*', written for rattle-kit-'*' logic '*')') ;;
 *) complain "the version: $version" ;;
 esac
 # The logic that it names is that of the toolchain which is here.
 if command -v rt >/dev/null; then
     here_now=$(rt version)
-    [ "${version##* logic }" = "${here_now##* logic })" ] || complain "proved with another logic: $version, and $here_now is here"
+    [ "${version##* logic }" = "${here_now##* logic })" ] || complain "written for another logic: $version, and $here_now is here"
 fi
 "$recall" -V >"$work/version" 2>&1 && [ "$(cat "$work/version")" = "$("$recall" --version)" ] || complain "-V isn't --version"
 

@@ -6,7 +6,8 @@
 #   events that relate the pairs of each step; and what of the items is missed;
 # - gaps: containers that a site shipped on and others packed, what was used without what lies in it, and what nobody saw come;
 # - items, of each site: which there are, how often they are named, and those that contain a text;
-# - status while a recall is open and once it has ended, with --exit-code; a report beside a trace of its root;
+# - status and audit while a recall is open and once it has ended, with --exit-code; a report beside a trace of its root;
+# - what a run says that open recalls miss, and that it is withheld for that with --unless-gaps;
 # - start --dry-run, which tells what the start then does. No question changes a byte of a file.
 # Run by hand, and by the gate on the program that it built. RECALL names another program. CHAINS is how many chains are made, 6
 # where it isn't set. It ends with status 0 where all is as it should be.
@@ -442,13 +443,27 @@ def recall_one(folder, events, site, item):
     same("a start", (state, quarantined, waiting), (did[6], int(did[3]), int(did[5])))
     if any(it[6] != "untold" for it in messages):
         sys.exit(f"a message is told before a run: {messages}")
+    reached, missed = steps(relate(events)[0], (site, item)), find_gaps(events)[3]
+    if state == "open" and missed & set(reached):
+        before = fingerprint(folder)
+        same("a run that is withheld", ask("run", folder, "--unless-gaps", status=5), "withheld\n")
+        hold_missed("a run that is withheld", reached, missed)
+        same("a run that is withheld --json", ask("run", folder, "--unless-gaps", "--json", status=5), '{"withheld":true}\n')
+        same("files after that", fingerprint(folder), before)
+        more = []
+    else:
+        more = ["--unless-gaps"]
     for turns in [2] * 5 + [2000] * 20:
-        ran = ask("run", folder, "--turns", str(turns)).splitlines()
+        was = state
+        ran = ask("run", folder, "--turns", str(turns), *more).splitlines()
+        hold_missed("a run", reached if was == "open" else [], missed)
         state, *_ = hold_detail(folder, recall)
         same("status and run", f"{recall} {state}" in ran, True)
+        ask("audit", folder, "--exit-code", status=5 if state == "open" else 0)
         if state == "ended":
             break
     same("the end", hold_detail(folder, recall)[0::2], ("ended", 0))
+    ask("run", folder, "--exit-code")
     report = ask("report", folder, recall).splitlines()
     hold_missed(f"report {recall}", steps(relate(events)[0], (site, item)), find_gaps(events)[3])
     traced = ask("trace", folder, site, item).splitlines()

@@ -11,9 +11,9 @@ use Rattle.site_folders.specs.FileCalls.{FileCall, Led}
 use Rattle.command_line.specs.CommandLines.{texts_of, AsksBatch, AsksFiles, AsksLint, IsBad}
 use Rattle.command_line.specs.Ends.{CommandEnds, Ends, Streams, TellsBatch, TellsLint}
 use Rattle.command_line.specs.Leads.{FailsBy, LeadsTo}
-use Rattle.command_line.specs.declared.command_lines.Batch.{Batch}
-use Rattle.command_line.specs.declared.command_lines.FileCommand.{FileCommand}
-use Rattle.command_line.specs.declared.command_lines.Terms.{Terms}
+use Rattle.command_line.specs.declared.asked.Batch.{Batch}
+use Rattle.command_line.specs.declared.asked.FileCommand.{FileCommand}
+use Rattle.command_line.specs.declared.asked.Terms.{Terms}
 use Rattle.command_line.specs.declared.lint_commands.LintFiles.{LintFiles}
 
 module _ {F K G W : Type 0} (does : F → FileCall K → F → Type 0) (waits limits : F → ℕ → F → Type 0) (knows : F → List ℕ → List ℕ → Type 0) (shown : K → Option Record) (failed : K → ℕ) (may : K → Record → Type 0) (reopens : K → Result K (Unopened K) → Type 0) (gives_up : G → ℕ → ℕ → Type 0) (stored : K → Type 0) (contents : W → Option (List ℕ)) where

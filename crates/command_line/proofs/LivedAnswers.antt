@@ -31,9 +31,10 @@ use Rattle.site_folders.proofs.VainLemmas.{asks_first, asks_then, closes_ask, no
 use Rattle.recall_text.specs.Words.{name_at}
 use Rattle.folder_questions.specs.declared.knowers.KnowersOf.{KnowersOf}
 use Rattle.folder_commands.specs.Batches.{BatchFails, TakesAll, TakesWhere, BreaksBatch}
+use Rattle.folder_commands.specs.declared.runs.RunTerms.{RunTerms}
 use Rattle.folder_commands.specs.Runs.{BreaksRun, RunFails, RunsAll, RunsAt}
 use Rattle.folder_commands.specs.Steps.{AtSite, BreaksCapture, BreaksStart, CaptureFails, CapturesAt, CapturesFile, StartFails, StartsAt, StartsItem, StartsRecall, Steps, TellsStep}
-use Rattle.folder_commands.proofs.RunLemmas.{broke_or_not, ran_or_not}
+use Rattle.folder_commands.proofs.RunLemmas.{broke_or_not, unless_or_not}
 use Rattle.folder_commands.specs.declared.batches.BatchCame.{BatchCame}
 use Rattle.folder_commands.specs.declared.batches.BatchOutput.{BatchOutput}
 use Rattle.folder_commands.specs.declared.words.WordKind.{WordKind}
@@ -204,17 +205,17 @@ module _ {K : Type 0} (shown : K → Option Record) (may : K → Record → Type
       (one_read shown stored folder text (opens_from folder sites 0 keepers ++ closes_all keepers) (closes_ask folder sites 0 keepers)))
   ran_all text keepers after rs is keep number (inr (lists, ran)) = all_ran shown may opens stored folder sites old new many calls continued left text keepers after rs lists is keep number ran
 
-  pub has_run : (knows : List ℕ → List ℕ → Type 0) (failed : K → ℕ) (turns : ℕ) (output : Output) → RunsAt knows shown failed may stored folder turns output calls → ActTogether old new
-  has_run knows failed turns output after =
-      let r = (at_once (λ ss rest. (output.sites ≡ ss) × RunsAll knows shown failed may stored folder ss turns output rest) after).1 in
-      ran_all after.text r.keepers r.after r.records (after.calls_are ∙ ap (λ l. ReadFile (list_path folder) after.text ∷ l) r.calls_are) r.opened r.number (ran_or_not shown failed may turns r.keepers r.after output.outcome r.end r.told)
+  pub has_run : (knows : List ℕ → List ℕ → Type 0) (failed : K → ℕ) (terms : RunTerms) (output : Output) → RunsAt knows shown failed may stored folder terms output calls → ActTogether old new
+  has_run knows failed terms output after =
+      let r = (at_once (λ ss rest. (output.sites ≡ ss) × RunsAll knows shown failed may stored folder ss terms output rest) after).1 in
+      ran_all after.text r.keepers r.after r.records (after.calls_are ∙ ap (λ l. ReadFile (list_path folder) after.text ∷ l) r.calls_are) r.opened r.number (unless_or_not shown failed may terms r.keepers r.after r.missed output.outcome r.end r.told)
 
-  pub run_failed : {G : Type 0} (failed : K → ℕ) (reopens : K → Result K (Unopened K) → Type 0) (gives_up : G → ℕ → ℕ → Type 0) (turns : ℕ) (fault : Fault) → RunFails shown failed may reopens gives_up stored folder turns fault calls → ActTogether old new
-  run_failed failed reopens gives_up turns fault (inl ends) = vain shown may opens stored folder sites old new many calls continued left fault ends
-  run_failed {G} failed reopens gives_up turns fault (inr after) =
-      let r = at_once (BreaksRun shown failed may reopens gives_up stored folder turns fault) after in
+  pub run_failed : {G : Type 0} (failed : K → ℕ) (reopens : K → Result K (Unopened K) → Type 0) (gives_up : G → ℕ → ℕ → Type 0) (terms : RunTerms) (fault : Fault) → RunFails shown failed may reopens gives_up stored folder terms fault calls → ActTogether old new
+  run_failed failed reopens gives_up terms fault (inl ends) = vain shown may opens stored folder sites old new many calls continued left fault ends
+  run_failed {G} failed reopens gives_up terms fault (inr after) =
+      let r = at_once (BreaksRun shown failed may reopens gives_up stored folder terms fault) after in
       ran_all after.text r.keepers r.after r.records (after.calls_are ∙ ap (λ l. ReadFile (list_path folder) after.text ∷ l) r.calls_are) r.opened r.number
-      (broke_or_not shown failed may reopens gives_up stored folder turns fault sites after.rest r)
+      (broke_or_not shown failed may reopens gives_up stored folder terms fault sites after.rest r)
 
   -- ---- several inputs
 

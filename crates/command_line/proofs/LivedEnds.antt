@@ -27,9 +27,9 @@ use Rattle.command_line.specs.CommandLines.{words_of}
 use Rattle.command_line.specs.Ends.{Ends, LintsFiles, Streams, TakesBatch}
 use Rattle.command_line.specs.Leads.{FailsBy, LeadsTo}
 use Rattle.command_line.specs.Lives.{AreActsOfSites, LeadByActs}
-use Rattle.command_line.specs.declared.command_lines.Batch.{Batch}
-use Rattle.command_line.specs.declared.command_lines.FileCommand.{FileCommand}
-use Rattle.command_line.specs.declared.command_lines.FileCommand.TheVariants.{Init, Capture, Start, Run, Report, Audit, Trace, Recalls, Recall as OneRecall, Items, Gaps}
+use Rattle.command_line.specs.declared.asked.Batch.{Batch}
+use Rattle.command_line.specs.declared.asked.FileCommand.{FileCommand}
+use Rattle.command_line.specs.declared.asked.FileCommand.TheVariants.{Init, Capture, Start, Run, Report, Audit, Trace, Recalls, Recall as OneRecall, Items, Gaps}
 use Rattle.command_line.specs.declared.lint_commands.LintFiles.{LintFiles}
 use Rattle.command_line.proofs.LivedAnswers.{after_asks, all_told, asks_behind, batch_failed, batch_taken, capture_failed, captured, has_run, refused_or, run_failed, site_told, start_failed, started}
 use Rattle.command_line.proofs.LivedCommands.{acted_unchanged, only_asked}
@@ -117,13 +117,13 @@ module _ {K : Type 0} (shown : K → Option Record) (may : K → Record → Type
     leads_acts (Start f site item false) output calls leads = λ sites old new many continued left. started shown may opens stored f.now sites old new many calls continued left _ site.now item output leads
     leads_acts (Start f site item true) output calls leads =
         asked_acts calls (asks_behind shown stored f.now _ _ (λ first its asks. after_asks shown stored f.now asks.0 (λ ss rest told. refused_or shown stored f.now told.1 (λ t. site_told shown stored f.now t.3))) output calls leads)
-    leads_acts (Run f turns) output calls leads = λ sites old new many continued left. has_run shown may opens stored f.now sites old new many calls continued left knows failed turns output leads
+    leads_acts (Run f terms) output calls leads = λ sites old new many continued left. has_run shown may opens stored f.now sites old new many calls continued left knows failed terms output leads
     leads_acts (Report f recall ways events) output calls leads = asked_acts calls (after_asks shown stored f.now leads (λ ss rest told. refused_or shown stored f.now told.1 (λ t. all_told shown stored f.now t.2)))
-    leads_acts (Audit f) output calls leads = asked_acts calls (after_asks shown stored f.now leads (λ ss rest told. refused_or shown stored f.now told.1 (λ t. all_told shown stored f.now t.2)))
+    leads_acts (Audit f coded) output calls leads = asked_acts calls (after_asks shown stored f.now leads (λ ss rest told. refused_or shown stored f.now told.1 (λ t. all_told shown stored f.now t.2)))
     leads_acts (Trace f site item back ways events) output calls leads =
         asked_acts calls (asks_behind shown stored f.now _ _ (λ first its asks. after_asks shown stored f.now asks (λ ss rest told. refused_or shown stored f.now told.1 (λ t. all_told shown stored f.now t.2))) output calls leads)
-    leads_acts (Recalls f coded) output calls leads = asked_acts calls (after_asks shown stored f.now leads.0 (λ ss rest told. refused_or shown stored f.now told.1 (λ t. all_told shown stored f.now t.2)))
-    leads_acts (OneRecall f recall coded) output calls leads = asked_acts calls (after_asks shown stored f.now leads.0 (λ ss rest told. refused_or shown stored f.now told.1 (λ t. all_told shown stored f.now t.2)))
+    leads_acts (Recalls f coded) output calls leads = asked_acts calls (after_asks shown stored f.now leads (λ ss rest told. refused_or shown stored f.now told.1 (λ t. all_told shown stored f.now t.2)))
+    leads_acts (OneRecall f recall coded) output calls leads = asked_acts calls (after_asks shown stored f.now leads (λ ss rest told. refused_or shown stored f.now told.1 (λ t. all_told shown stored f.now t.2)))
     leads_acts (Items f site text) output calls leads = asked_acts calls (after_asks shown stored f.now leads.0 (λ ss rest told. refused_or shown stored f.now told.1 (λ t. site_told shown stored f.now t.3)))
     leads_acts (Gaps f coded) output calls leads = asked_acts calls (after_asks shown stored f.now leads.0 (λ ss rest told. refused_or shown stored f.now told.1 (λ t. all_told shown stored f.now t.2)))
 
@@ -133,9 +133,9 @@ module _ {K : Type 0} (shown : K → Option Record) (may : K → Record → Type
     fails_acts (Capture f site file) fault calls fails = λ sites old new many continued left. capture_failed shown may opens stored f.now sites old new many calls continued left failed site.now file.now fault fails
     fails_acts (Start f site item false) fault calls fails = λ sites old new many continued left. start_failed shown may opens stored f.now sites old new many calls continued left failed site.now item fault fails
     fails_acts (Start f site item true) fault calls fails = asked_acts calls fails.harmless
-    fails_acts (Run f turns) fault calls fails = λ sites old new many continued left. run_failed shown may opens stored f.now sites old new many calls continued left failed reopens gives_up turns fault fails
+    fails_acts (Run f terms) fault calls fails = λ sites old new many continued left. run_failed shown may opens stored f.now sites old new many calls continued left failed reopens gives_up terms fault fails
     fails_acts (Report f recall ways events) fault calls fails = asked_acts calls fails.harmless
-    fails_acts (Audit f) fault calls fails = asked_acts calls fails.harmless
+    fails_acts (Audit f coded) fault calls fails = asked_acts calls fails.harmless
     fails_acts (Trace f site item back ways events) fault calls fails = asked_acts calls fails.harmless
     fails_acts (Recalls f coded) fault calls fails = asked_acts calls fails.harmless
     fails_acts (OneRecall f recall coded) fault calls fails = asked_acts calls fails.harmless

@@ -12,7 +12,7 @@ use Rattle.site_core.specs.Records.{Record}
 use Rattle.site_folders.specs.FileCalls.{FileCall, Led}
 use Rattle.command_line.specs.CommandLines.{words_of}
 use Rattle.command_line.specs.Ends.{InputLine, LintLine, LintsFiles, TakesBatch}
-use Rattle.command_line.specs.declared.command_lines.Batch.{Batch}
+use Rattle.command_line.specs.declared.asked.Batch.{Batch}
 use Rattle.command_line.specs.declared.lint_commands.LintFiles.{LintFiles}
 
 module _ {F K W : Type 0} (does : F → FileCall K → F → Type 0) (shown : K → Option Record) (may : K → Record → Type 0) (stored : K → Type 0) (contents : W → Option (List ℕ)) (batch : Batch) (old new : F) (before after : W) where

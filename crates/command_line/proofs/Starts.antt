@@ -11,7 +11,7 @@ use Rattle.site_folders.specs.FileCalls.{FileCall, Led}
 use Rattle.folder_commands.specs.Steps.{StartsAt}
 use Rattle.command_line.specs.Leads.{DryStarts, LeadsTo, Plainly}
 use Rattle.command_line.specs.UnknownItems.{TellsBehind, is_unknown}
-use Rattle.command_line.specs.declared.command_lines.FileCommand.TheVariants.{Start}
+use Rattle.command_line.specs.declared.asked.FileCommand.TheVariants.{Start}
 use Rattle.command_line.proofs.Behind.{and_who}
 
 module _ {F K : Type 0} (does : F → FileCall K → F → Type 0) where

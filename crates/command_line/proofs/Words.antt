@@ -12,16 +12,16 @@ use Rattle.clap.specs.Words.{IsAmong, Row, Text, first_of, is_simple, is_simple_
 use Rattle.clap.specs.declared.error.ErrorKind.{ErrorKind}
 use Rattle.clap.specs.declared.error.ErrorKind.TheVariants.{DisplayHelp, DisplayVersion, OutOfMemory}
 use Rattle.clap.proofs.OnLiterals.{clap_on_literals}
-use Rattle.command_line.specs.declared.command_lines.Asked.{Asked}
-use Rattle.command_line.specs.declared.command_lines.Asked.TheVariants as asked
-use Rattle.command_line.specs.declared.command_lines.Batch.{Batch}
-use Rattle.command_line.specs.declared.command_lines.Terms.{Terms}
+use Rattle.command_line.specs.declared.asked.Asked.{Asked}
+use Rattle.command_line.specs.declared.asked.Asked.TheVariants as asked
+use Rattle.command_line.specs.declared.asked.Batch.{Batch}
+use Rattle.command_line.specs.declared.asked.Terms.{Terms}
 use Rattle.item_spellings.specs.declared.spellings.Spelling.{Spelling}
 use Rattle.folder_commands.specs.declared.words.WordKind.{WordKind}
 use Rattle.folder_commands.specs.declared.words.WordKind.TheVariants as kinds
-use Rattle.command_line.specs.declared.command_lines.FileCommand.{FileCommand}
+use Rattle.command_line.specs.declared.asked.FileCommand.{FileCommand}
 use Rattle.command_line.specs.declared.lint_commands.LintFiles.{LintFiles}
-use Rattle.command_line.specs.declared.command_lines.FileCommand.TheVariants.{Init, Capture, Start, Run, Report, Audit, Trace, Recalls, Recall, Items, Gaps}
+use Rattle.command_line.specs.declared.asked.FileCommand.TheVariants.{Init, Capture, Start, Run, Report, Audit, Trace, Recalls, Recall, Items, Gaps}
 use Rattle.command_line.specs.CommandLines.{recall, faults_of, named, AsksBatch, AsksDryBatch, AsksFiles, AsksHelp, AsksLinesAndEvents, AsksLint, AsksNamed, AsksOf, AsksTwo, AsksTwoForms, Contradicts, GivesDocuments, GivesEpcs, GivesFiles, GivesSpelling, GivesWords, IsBad, IsBatch, IsCapture, IsCommand, IsContradiction, IsLintCommand, IsMistake, IsSet, IsShown, IsStart, AsksFor, IsToldAs, IsUnset, epcs_kind, has_many, words_of}
 use mathlib.Core.Logic.{◌⊎◌}
 
@@ -48,9 +48,9 @@ sim_is_no_command : (command : FileCommand) (rows : List Row) → IsCommand comm
 sim_is_no_command (Init folder list) rows is = let bad = is.0 in cc
 sim_is_no_command (Capture folder site file) rows is = let bad = is.0 in cc
 sim_is_no_command (Start folder site item dry) rows is = let bad = is.0 in cc
-sim_is_no_command (Run folder turns) rows is = let bad : ◌≡◌ {A = ℕ} 115 114 = ap (λ (text : List ℕ). get_or text 0 0) is.0 in absurd (omega arith)
+sim_is_no_command (Run folder terms) rows is = let bad : ◌≡◌ {A = ℕ} 115 114 = ap (λ (text : List ℕ). get_or text 0 0) is.0 in absurd (omega arith)
 sim_is_no_command (Report folder recall ways events) rows is = let bad = is.0 in cc
-sim_is_no_command (Audit folder) rows is = let bad = is.0 in cc
+sim_is_no_command (Audit folder coded) rows is = let bad = is.0 in cc
 sim_is_no_command (Gaps folder coded) rows is = let bad = is.0 in cc
 sim_is_no_command (Trace folder site item back ways events) rows is = let bad = is.0 in cc
 sim_is_no_command (Recalls folder coded) rows is = let bad = is.0 in cc

@@ -18,13 +18,13 @@ use Rattle.outcome_forms.specs.declared.forms.Form.{Form}
 use Rattle.outcome_forms.specs.declared.forms.Form.TheVariants as forms
 use Rattle.recall_outcomes.specs.declared.outcomes.Ways.{Ways}
 use Rattle.recall_outcomes.specs.declared.outcomes.Ways.TheVariants.{Trails, Steps}
-use Rattle.command_line.specs.declared.command_lines.Asked.{Asked}
-use Rattle.command_line.specs.declared.command_lines.Asked.TheVariants as asked
-use Rattle.command_line.specs.declared.command_lines.Batch.{Batch}
-use Rattle.command_line.specs.declared.command_lines.FileCommand.{FileCommand}
-use Rattle.command_line.specs.declared.command_lines.Terms.{Terms}
+use Rattle.command_line.specs.declared.asked.Asked.{Asked}
+use Rattle.command_line.specs.declared.asked.Asked.TheVariants as asked
+use Rattle.command_line.specs.declared.asked.Batch.{Batch}
+use Rattle.command_line.specs.declared.asked.FileCommand.{FileCommand}
+use Rattle.command_line.specs.declared.asked.Terms.{Terms}
 use Rattle.command_line.specs.declared.lint_commands.LintFiles.{LintFiles}
-use Rattle.command_line.specs.declared.command_lines.FileCommand.TheVariants.{Init, Capture, Start, Run, Report, Audit, Trace, Recalls, Recall, Items, Gaps}
+use Rattle.command_line.specs.declared.asked.FileCommand.TheVariants.{Init, Capture, Start, Run, Report, Audit, Trace, Recalls, Recall, Items, Gaps}
 
 -- the words of a batch
 abbrev pub words_of : Batch → List (List ℕ)
@@ -126,7 +126,7 @@ turns =
     }
 
 abbrev pub run : App
-run = with_rule (on_folder (codes "run")) turns
+run = with_rule (with_rule (with_rule (on_folder (codes "run")) turns) (flag (codes "unless-gaps"))) (flag (codes "exit-code"))
 
 -- a command that can also be asked to print rows, or a picture
 abbrev pub with_forms : App → App
@@ -140,7 +140,7 @@ abbrev pub report : App
 report = with_forms (with_ways (with_rule (on_folder (codes "report")) (required (codes "recall"))))
 
 abbrev pub audit : App
-audit = on_folder (codes "audit")
+audit = with_rule (on_folder (codes "audit")) (flag (codes "exit-code"))
 
 abbrev pub trace : App
 trace =
@@ -296,12 +296,13 @@ IsCommand (Start folder site item dry) name rows =
     (name ≡ codes "start") × Gives rows (codes "dir") folder.now × Gives rows (codes "site") site.now × GivesEpcs rows (item.text.now ∷ []) false
     × GivesSpelling rows item.spelling
     × (IsTrue dry ↔ IsSet rows (codes "dry-run"))
-IsCommand (Run folder turns) name rows =
-    (name ≡ codes "run") × Gives rows (codes "dir") folder.now × GivesNumber rows (codes "turns") turns × (1 ≤ turns) × (turns ≤ 1000000)
+IsCommand (Run folder terms) name rows =
+    (name ≡ codes "run") × Gives rows (codes "dir") folder.now × GivesNumber rows (codes "turns") terms.turns × (1 ≤ terms.turns) × (terms.turns ≤ 1000000)
+    × (IsTrue terms.unless_gaps ↔ IsSet rows (codes "unless-gaps")) × (IsTrue terms.coded ↔ IsSet rows (codes "exit-code"))
 IsCommand (Report folder recall ways events) name rows =
     (name ≡ codes "report") × Gives rows (codes "dir") folder.now × Gives rows (codes "recall") recall.now × GivesWays rows ways
     × (IsTrue events ↔ IsSet rows (codes "events"))
-IsCommand (Audit folder) name rows = (name ≡ codes "audit") × Gives rows (codes "dir") folder.now
+IsCommand (Audit folder coded) name rows = (name ≡ codes "audit") × Gives rows (codes "dir") folder.now × (IsTrue coded ↔ IsSet rows (codes "exit-code"))
 IsCommand (Trace folder site item back ways events) name rows =
     (name ≡ codes "trace") × Gives rows (codes "dir") folder.now × Gives rows (codes "site") site.now × GivesItem rows item
     × (IsTrue back ↔ IsSet rows (codes "back")) × GivesWays rows ways
@@ -372,7 +373,7 @@ IsMistake other = ⊥
 
 -- a run is of at most 1,000,000 turns
 abbrev pub HasTurns : FileCommand → Type 0
-HasTurns (Run dir turns) = turns ≤ 1000000
+HasTurns (Run dir terms) = terms.turns ≤ 1000000
 HasTurns command = ⊤
 
 -- two options exclude each other, or a dry start of several recalls is asked for

@@ -34,9 +34,9 @@ use Rattle.outcome_forms.specs.Writing.{Writes, WritesLines}
 use Rattle.outcome_forms.specs.declared.forms.Form.{Form}
 use Rattle.command_line.specs.CommandLines.{AsksBatch, AsksFiles, AsksHelp, AsksLint, AsksSim, IsBad, texts_of, words_of}
 use Rattle.command_line.specs.Leads.{FailsBy, LeadsTo}
-use Rattle.command_line.specs.declared.command_lines.Batch.{Batch}
-use Rattle.command_line.specs.declared.command_lines.FileCommand.{FileCommand}
-use Rattle.command_line.specs.declared.command_lines.Terms.{Terms}
+use Rattle.command_line.specs.declared.asked.Batch.{Batch}
+use Rattle.command_line.specs.declared.asked.FileCommand.{FileCommand}
+use Rattle.command_line.specs.declared.asked.Terms.{Terms}
 use Rattle.command_line.specs.declared.lint_commands.LintFiles.{LintFiles}
 
 -- an input by what it still has, where it reports it, and an output

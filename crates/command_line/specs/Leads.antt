@@ -29,8 +29,8 @@ use Rattle.folder_commands.specs.Making.{InitFails, InitsAt}
 use Rattle.folder_commands.specs.Runs.{RunFails, RunsAt}
 use Rattle.folder_commands.specs.Steps.{CaptureFails, CapturesAt, StartFails, StartsAt}
 use Rattle.command_line.specs.UnknownItems.{AndWho}
-use Rattle.command_line.specs.declared.command_lines.FileCommand.{FileCommand}
-use Rattle.command_line.specs.declared.command_lines.FileCommand.TheVariants.{Init, Capture, Start, Run, Report, Audit, Trace, Recalls, Recall as OneRecall, Items, Gaps}
+use Rattle.command_line.specs.declared.asked.FileCommand.{FileCommand}
+use Rattle.command_line.specs.declared.asked.FileCommand.TheVariants.{Init, Capture, Start, Run, Report, Audit, Trace, Recalls, Recall as OneRecall, Items, Gaps}
 
 -- an outcome beside which nothing is noted
 abbrev pub Plainly : {K : Type 0} → (List Site → Outcome → List (FileCall K) → Type 0) → Output → List (FileCall K) → Type 0
@@ -40,22 +40,23 @@ Plainly Tells output calls = Tells output.sites output.outcome calls × (output.
 
 module _ {K : Type 0} (shown : K → Option Record) (stored : K → Type 0) (folder : List ℕ) where
   -- whether the records are consistent, how each recall's quarantine compares with what its root reaches, and what is stuck
-  abbrev pub Audits : Output → List (FileCall K) → Type 0
-  Audits output =
-      AsksAll {Q = ⊤} {A = Outcome × Notes} shown stored folder (λ sites told. ⊥) (λ sites asked. ⊤) (λ asked rs told. AnswersAudit rs told.0 told.1)
+  abbrev pub Audits : Bool → Output → List (FileCall K) → Type 0
+  Audits coded output =
+      AsksAll {Q = ⊤} {A = Outcome × Notes} shown stored folder (λ sites told. ⊥) (λ sites asked. ⊤) (λ asked rs told. AnswersAudit rs coded told.0 told.1)
       output.sites (output.outcome, output.notes)
 
   -- how all recalls stand
   abbrev pub AllStand : Bool → Output → List (FileCall K) → Type 0
-  AllStand coded =
-      Plainly (AsksAll {Q = ⊤} shown stored folder (λ sites outcome. ⊥) (λ sites asked. ⊤) (λ asked rs outcome. AnswersRecalls rs coded outcome))
+  AllStand coded output =
+      AsksAll {Q = ⊤} {A = Outcome × Notes} shown stored folder (λ sites told. ⊥) (λ sites asked. ⊤) (λ asked rs told. AnswersRecalls rs coded told.0 told.1)
+      output.sites (output.outcome, output.notes)
 
   -- how the recall of a text stands, and what it waits for
   abbrev pub OneStands : List ℕ → Bool → Output → List (FileCall K) → Type 0
-  OneStands recall coded =
-      Plainly
-      (AsksAll {Q = Recall} shown stored folder (λ sites outcome. RefusesRecall recall sites outcome) (λ sites r. AsksRecall recall sites r)
-      (λ r rs outcome. AnswersRecall rs r coded outcome))
+  OneStands recall coded output =
+      AsksAll {Q = Recall} {A = Outcome × Notes} shown stored folder (λ sites told. RefusesRecall recall sites told.0 × (told.1 ≡ Nothing)) (λ sites r. AsksRecall recall sites r)
+      (λ r rs told. AnswersRecall rs r coded told.0 told.1)
+      output.sites (output.outcome, output.notes)
 
   -- what is quarantined for the recall of a text, how it got there, and what left; and what that misses
   abbrev pub Reports : List ℕ → Ways → Bool → Output → List (FileCall K) → Type 0
@@ -104,9 +105,9 @@ module _ {K : Type 0} (knows : List ℕ → List ℕ → Type 0) (shown : K → 
       AndWho shown stored folder.now (record { site = site; item = item }) (StartsAt shown stored folder.now site.now item) output calls
   LeadsTo (Start folder site item true) output calls =
       AndWho shown stored folder.now (record { site = site; item = item }) (DryStarts shown stored folder.now site.now item) output calls
-  LeadsTo (Run folder turns) output calls = RunsAt knows shown failed may stored folder.now turns output calls
+  LeadsTo (Run folder terms) output calls = RunsAt knows shown failed may stored folder.now terms output calls
   LeadsTo (Report folder recall ways events) output calls = Reports shown stored folder.now recall.now ways events output calls
-  LeadsTo (Audit folder) output calls = Audits shown stored folder.now output calls
+  LeadsTo (Audit folder coded) output calls = Audits shown stored folder.now coded output calls
   LeadsTo (Trace folder site item back ways events) output calls =
       AndWho shown stored folder.now (record { site = site; item = item }) (Traces shown stored folder.now site.now item back ways events) output calls
   LeadsTo (Recalls folder coded) output calls = AllStand shown stored folder.now coded output calls
@@ -121,9 +122,9 @@ module _ {K G : Type 0} (shown : K → Option Record) (failed : K → ℕ) (may 
   FailsBy (Capture folder site file) fault calls = CaptureFails shown may failed stored folder.now site.now file.now fault calls
   FailsBy (Start folder site item false) fault calls = StartFails shown may failed stored folder.now site.now item fault calls
   FailsBy (Start folder site item true) fault calls = EndsInVain shown folder.now fault calls
-  FailsBy (Run folder turns) fault calls = RunFails shown failed may reopens gives_up stored folder.now turns fault calls
+  FailsBy (Run folder terms) fault calls = RunFails shown failed may reopens gives_up stored folder.now terms fault calls
   FailsBy (Report folder recall ways events) fault calls = EndsInVain shown folder.now fault calls
-  FailsBy (Audit folder) fault calls = EndsInVain shown folder.now fault calls
+  FailsBy (Audit folder coded) fault calls = EndsInVain shown folder.now fault calls
   FailsBy (Trace folder site item back ways events) fault calls = EndsInVain shown folder.now fault calls
   FailsBy (Recalls folder coded) fault calls = EndsInVain shown folder.now fault calls
   FailsBy (OneRecall folder recall coded) fault calls = EndsInVain shown folder.now fault calls

@@ -4,7 +4,7 @@ ghost use Rattle.std.specs.Prelude.{◌≡◌, IfErr, IfOk};
 ghost use Rattle.folder_commands.specs.Words.{task_of};
 ghost use Rattle.command_line.specs.Ends.{BatchEnds, InputLine, TakesBatch, TellsBatch};
 
-use crate::command_lines::Batch;
+use crate::asked::Batch;
 use crate::commands::{fault, tell_output};
 use crate::limits::LimitsDocuments;
 use crate::sinks::InputLines;

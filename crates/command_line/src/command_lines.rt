@@ -4,128 +4,17 @@ ghost use Rattle.std.specs.Prelude.{◌≡◌, ◌↔◌, false, IfNone, IfOk, I
 ghost use Rattle.clap.specs.Words.{found_of, kind_of, rows_of, subcommand_rows_of};
 ghost use Rattle.command_line.specs.CommandLines.{texts_of, AsksDryBatch, AsksFor, AsksLinesAndEvents, AsksNamed, AsksOf, AsksTwoForms, AsksTwoSpellings, AsksUntoldEvents, Gives, GivesDocuments, GivesForm, GivesItem, GivesMost, GivesNumber, GivesOrNone, GivesSpelling, GivesTerms, GivesWays, IsCapture, IsCommand, IsMistake, IsSet, IsStart, IsToldAs, epcs_kind, has_many};
 
+use crate::asked::{Asked, Batch, FileCommand, Terms};
 use crate::grammar::recall;
 use crate::helps;
-use crate::lint_commands::{LintFiles, lint_command};
+use crate::lint_commands::lint_command;
 use clap::error::ErrorKind;
 use clap::{ArgMatches, Error};
-use folder_commands::WordKind;
+use folder_commands::{RunTerms, WordKind};
 use item_spellings::{Spelled, Spelling};
 use outcome_forms::Form;
 use recall_outcomes::Ways;
 use std::alloc::{AllocError, Global};
-
-/// What a command line asks for.
-#[derive(Debug, Drop)]
-pub(crate) enum Asked<'a> {
-    /// A script from the standard input.
-    Sim,
-    /// Something of the sites' files, on these terms.
-    Files(FileCommand<'a>, Terms),
-    /// Several documents are captured at a site, or several recalls started.
-    Batch(Batch<'a>),
-    /// Documents of files are looked through.
-    Lint(LintFiles<'a>),
-    /// Help, or the version, which is an answer.
-    Help(String),
-    /// A bad command line, with what is wrong with it.
-    Mistake(String),
-}
-
-/// On which terms a command on the sites' files is done.
-#[derive(Clone, Copy, Debug)]
-pub(crate) struct Terms {
-    /// How what it comes to is printed.
-    pub(crate) form: Form,
-    /// For how many seconds it waits for a site's file that another program has open.
-    pub(crate) wait: u64,
-    /// How many bytes a document, or a line of a file of lines, has at most.
-    pub(crate) most: u64,
-}
-
-/// What a site of a folder does one after another: the documents that it captures, or the items whose recall it starts,
-/// of several words, or of the lines or the events of files.
-#[derive(Debug, Drop)]
-pub(crate) struct Batch<'a> {
-    pub(crate) folder: &'a str,
-    pub(crate) site: &'a str,
-    pub(crate) words: Vec<&'a str>,
-    /// What each of the words is.
-    pub(crate) kind: WordKind,
-    pub(crate) terms: Terms,
-}
-
-/// A command on the sites' files in a folder.
-#[derive(Debug, Drop)]
-pub(crate) enum FileCommand<'a> {
-    /// A file is made for each site of a list.
-    Init {
-        folder: &'a str,
-        list: &'a str,
-    },
-    /// The document of one file is captured at a site.
-    Capture {
-        folder: &'a str,
-        site: &'a str,
-        file: &'a str,
-    },
-    /// A recall of an item is started at a site, or it is asked what its start would do.
-    Start {
-        folder: &'a str,
-        site: &'a str,
-        item: Spelled<'a>,
-        dry: bool,
-    },
-    /// All sites run, for so many turns: 1 to 1,000,000.
-    Run {
-        folder: &'a str,
-        turns: u64,
-    },
-    /// A recall is reported.
-    Report {
-        folder: &'a str,
-        recall: &'a str,
-        ways: Ways,
-        /// Whether the events behind the steps are told.
-        events: bool,
-    },
-    /// An item at a site is traced to where it went, or back to where it came from.
-    Trace {
-        folder: &'a str,
-        site: &'a str,
-        item: Spelled<'a>,
-        back: bool,
-        ways: Ways,
-        /// Whether the events behind the steps are told.
-        events: bool,
-    },
-    /// It is asked how all recalls stand, and perhaps for a status that tells that one is open.
-    Recalls {
-        folder: &'a str,
-        coded: bool,
-    },
-    /// It is asked how one recall stands.
-    Recall {
-        folder: &'a str,
-        recall: &'a str,
-        coded: bool,
-    },
-    /// A site is asked for the items that it knows, of which the key contains a text.
-    Items {
-        folder: &'a str,
-        site: &'a str,
-        text: &'a str,
-    },
-    /// All sites are audited.
-    Audit {
-        folder: &'a str,
-    },
-    /// It is asked for the gaps of what the sites captured, and perhaps for a status that tells that there are any.
-    Gaps {
-        folder: &'a str,
-        coded: bool,
-    },
-}
 
 /// Reads the words of a command line, the program's name first.
 pub(crate) fn read<'a>(alloc: Global, words: &'a [String]) -> Result<Asked<'a>, AllocError>
@@ -370,7 +259,8 @@ fn file_command<'a>(name: &str, given: &ArgMatches<'a>) -> Option<FileCommand<'a
             events,
         })
     } else if name == "audit" {
-        Some(FileCommand::Audit { folder })
+        let coded = is_set(given, "exit-code");
+        Some(FileCommand::Audit { folder, coded })
     } else if name == "gaps" {
         let coded = is_set(given, "exit-code");
         Some(FileCommand::Gaps { folder, coded })
@@ -387,11 +277,15 @@ fn all_sites_command<'a>(folder: &'a str, given: &ArgMatches<'a>) -> Option<File
     ensures { IfSome result (λ c. IsCommand c (codes "run") (rows_of (found_of given.now))) }
 {
     let turns = number(given, "turns")?;
-    if 1 <= turns && turns <= 1_000_000 {
-        Some(FileCommand::Run { folder, turns })
-    } else {
-        None
+    if turns < 1 || 1_000_000 < turns {
+        return None;
     }
+    let terms = RunTerms {
+        turns,
+        unless_gaps: is_set(given, "unless-gaps"),
+        coded: is_set(given, "exit-code"),
+    };
+    Some(FileCommand::Run { folder, terms })
 }
 
 /// The command of a name at one site.

@@ -4,13 +4,13 @@ ghost use Rattle.std.specs.Prelude.{◌≡◌, ◌⊎◌, ◌==◌, if◌then◌
 ghost use Rattle.command_line.specs.Ends.{CommandEnds, Ends, OutcomeEnds, RunsScript, SimRuns, streams};
 ghost use Rattle.command_line.specs.Lives.{LeadByActs};
 
+use crate::asked::Asked;
 use crate::batch_commands::take_batch;
-use crate::command_lines::{self, Asked};
 use crate::folder_tasks::do_command;
 use crate::limits::LimitsDocuments;
 use crate::lint_commands::lint_files;
 use crate::sinks::print;
-use crate::statuses;
+use crate::{command_lines, statuses};
 use keeper_core::SiteKeeper;
 use outcome_forms::{Form, fault_line, write_beside, write_fault, write_outcome};
 use recall_outcomes::{Fault, Output};

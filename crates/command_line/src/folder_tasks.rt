@@ -8,7 +8,7 @@ ghost use Rattle.command_line.specs.CommandLines.{HasTurns};
 ghost use Rattle.command_line.specs.Leads.{FailsBy, LeadsTo};
 ghost use Rattle.command_line.specs.UnknownItems.{TellsBehind, is_unknown, is_unknown_item};
 
-use crate::command_lines::FileCommand;
+use crate::asked::FileCommand;
 use event_json::Sites;
 use folder_commands::{capture, init, run_sites, start};
 use folder_questions::{
@@ -47,7 +47,7 @@ pub(crate) fn do_command<
         (FailsBy K.shown K.failed K.may K.reopens G.gives_up K.stored command.now fault)) }
 {
     match command {
-        FileCommand::Run { folder, turns } => run_sites(rt, alloc, files, gate, folder, *turns),
+        FileCommand::Run { folder, terms } => run_sites(rt, alloc, files, gate, folder, *terms),
         FileCommand::Init { folder, list } => init(alloc, keys, files, folder, list),
         FileCommand::Capture { folder, site, file } => capture(alloc, files, folder, site, file),
         FileCommand::Start {
@@ -77,7 +77,10 @@ pub(crate) fn do_command<
             };
             Ok(with_notes(ask(alloc, files, folder, &question)?))
         }
-        FileCommand::Audit { folder } => Ok(with_notes(ask(alloc, files, folder, &Audit {})?)),
+        FileCommand::Audit { folder, coded } => {
+            let question = Audit { coded: *coded };
+            Ok(with_notes(ask(alloc, files, folder, &question)?))
+        }
         FileCommand::Trace {
             folder,
             site,
@@ -99,7 +102,7 @@ pub(crate) fn do_command<
         }
         FileCommand::Recalls { folder, coded } => {
             let question = Statuses { coded: *coded };
-            Ok(plain(ask(alloc, files, folder, &question)?))
+            Ok(with_notes(ask(alloc, files, folder, &question)?))
         }
         FileCommand::Recall {
             folder,
@@ -110,7 +113,7 @@ pub(crate) fn do_command<
                 recall,
                 coded: *coded,
             };
-            Ok(plain(ask(alloc, files, folder, &question)?))
+            Ok(with_notes(ask(alloc, files, folder, &question)?))
         }
         FileCommand::Items { folder, site, text } => {
             Ok(plain(ask_site(alloc, files, folder, &ItemsOf { site, text })?))

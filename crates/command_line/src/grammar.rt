@@ -298,7 +298,26 @@ fn epcs<'a>(alloc: Global) -> Arg<'a>
 fn run<'a>(alloc: Global) -> Result<Command<'a>, AllocError>
     ensures { IfOk result (λ command. app_of command ≡ run) }
 {
-    on_folder(alloc, "run", helps::RUN_ABOUT, helps::RUN_EXAMPLE)?.arg(turns(alloc))
+    on_folder(alloc, "run", helps::RUN_ABOUT, helps::RUN_EXAMPLE)?
+        .arg(turns(alloc))?
+        .arg(flag(
+            alloc,
+            "unless-gaps",
+            "Send nothing, and end with status 5, where an open recall misses items",
+        ))?
+        .arg(exit_code(alloc))
+}
+
+/// Whether the status tells that a recall is open.
+fn exit_code<'a>(alloc: Global) -> Arg<'a>
+    ensures rule { rule_of result ≡ flag (codes "exit-code") }
+    ensures local { result.global ≡ false }
+{
+    flag(
+        alloc,
+        "exit-code",
+        "End with status 5 while a recall is open",
+    )
 }
 
 /// The number of turns that each site makes.
@@ -329,7 +348,7 @@ fn report<'a>(alloc: Global) -> Result<Command<'a>, AllocError>
 fn audit<'a>(alloc: Global) -> Result<Command<'a>, AllocError>
     ensures { IfOk result (λ command. app_of command ≡ audit) }
 {
-    on_folder(alloc, "audit", helps::AUDIT_ABOUT, helps::AUDIT_EXAMPLE)
+    on_folder(alloc, "audit", helps::AUDIT_ABOUT, helps::AUDIT_EXAMPLE)?.arg(exit_code(alloc))
 }
 
 fn trace<'a>(alloc: Global) -> Result<Command<'a>, AllocError>
@@ -357,11 +376,7 @@ fn status<'a>(alloc: Global) -> Result<Command<'a>, AllocError>
             "recall",
             "The recall, as dairy#1; all of them where it is left out",
         ))?
-        .arg(flag(
-            alloc,
-            "exit-code",
-            "End with status 5 while a recall is open",
-        ))
+        .arg(exit_code(alloc))
 }
 
 fn gaps<'a>(alloc: Global) -> Result<Command<'a>, AllocError>

@@ -7,7 +7,7 @@ pub(crate) const ABOUT: &str =
 /// The program's version, that of the sites' files which it makes, and the toolchain and the logic that it is proved
 /// with.
 pub(crate) const VERSION: &str =
-    "0.1.0 (site files of version 2, proved with rattle-kit-13f logic dac8208d650f15bf)";
+    "0.1.0 (site files of version 2, written for rattle-kit-13f logic dac8208d650f15bf)";
 
 /// What is wrong where two forms are asked for.
 pub(crate) const TWO_FORMS: &str = "\
@@ -71,8 +71,8 @@ shipments that stands for the site. An item is an EPC, as urn:epc:id:sgtin:06141
 Link or any other text without spaces. A recall is named by its site and its number there, as dairy#1.
 
 Status: 0 done, 1 something was refused, 2 bad command line, 3 a fault, named on the error stream,
-4 an audit found a discrepancy, 5 what `--exit-code` asks for: `status`, a recall is open; `gaps`, there
-are any.
+4 an audit found a discrepancy, 5 what was asked for: with `--exit-code` that a recall is open (`status`,
+`run`, `audit`) or that there are gaps, with `--unless-gaps` that nothing was sent because of them.
 
 `recall <command> --help` says more of a command, with an example.";
 
@@ -163,10 +163,16 @@ Each site sends what waits for other sites, takes what they send, and signals wh
 each recall that a site began is printed: `<recall> ended` or `<recall> open`. One that is open continues in
 the next run. Where the sites' records are inconsistent nothing is run: `misfit <condition> <site>`.
 
-Example:
-  recall run chain --turns 5000
+`missed <n> at <site>` says that open recalls reach items which that site sent on in containers that others
+packed. Once a recall has come to the site it can't capture those packings any more, so let it capture them
+before: with `--unless-gaps` nothing is sent then, and `withheld` is printed.
 
-Status: 0 done, 3 a fault, 4 a misfit.";
+Examples:
+  recall run chain --turns 5000
+  recall run chain --unless-gaps --exit-code
+
+Status: 0 done, 3 a fault, 4 a misfit; 5 with `--unless-gaps` where items are missed, and with `--exit-code`
+while a recall is open.";
 
 pub(crate) const REPORT_ABOUT: &str =
     "Reports a recall: what is quarantined, how it came there, what left the sites";
@@ -198,10 +204,11 @@ Prints for each recall `open <recall>`, or, once it has ended, `equal <recall> p
 `differs <recall> <site> <item> missing` (or `extra`). Where the records are inconsistent it prints
 `misfit <condition> <site>` alone.
 
-Example:
+Examples:
   recall audit chain
+  recall audit chain --exit-code
 
-Status: 0 done, 3 a fault, 4 a misfit or a difference.";
+Status: 0 done, 3 a fault, 4 a misfit or a difference, and with `--exit-code` 5 while a recall is open.";
 
 pub(crate) const TRACE_ABOUT: &str =
     "Traces an item to where it went, or with `--back` to where it came from, without a recall";

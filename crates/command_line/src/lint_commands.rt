@@ -7,7 +7,8 @@ ghost use Rattle.outcome_forms.specs.Writing.{WritesLines};
 ghost use Rattle.command_line.specs.CommandLines.{GivesForm, IsLintCommand};
 ghost use Rattle.command_line.specs.Ends.{LintEnds, LintsFiles, TellsLint};
 
-use crate::command_lines::{Asked, argument, copied, most_of};
+use crate::asked::Asked;
+use crate::command_lines::{argument, copied, most_of};
 use crate::commands::{fault, tell_output};
 use crate::limits::LimitsDocuments;
 use crate::sinks::{LintLines, print};

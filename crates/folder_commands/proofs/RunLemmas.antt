@@ -1,5 +1,5 @@
 -- what the keepers show after a run
-use Rattle.std.proofs.Common.{◌≡◌, ◌≤◌, ◌∙◌, ◌⊎◌, ⊎_elim, inl, inr, ℕ, suc, Option, None, Some, IsSome, List, [], ◌∷◌, All, length, map, refl, sym, ap, subst, arith}
+use Rattle.std.proofs.Common.{◌≡◌, ◌≤◌, ◌∙◌, ◌⊎◌, ⊎_elim, inl, inr, ℕ, suc, true, Option, None, Some, IsSome, List, [], ◌∷◌, All, length, map, refl, sym, ap, subst, arith}
 use Rattle.std.proofs.lemmas.List.{length-map}
 use Rattle.std.proofs.lemmas.List.Elements.{All-cons, All-nil}
 use Rattle.std.specs.List.{AllZip}
@@ -27,9 +27,11 @@ use Rattle.world_core.specs.declared.faults.WorldFault.TheVariants as worlds
 use Rattle.site_folders.specs.FileCalls.{FileCall}
 use Rattle.site_folders.specs.Keepers.{AreShown}
 use Rattle.site_folders.proofs.CallsInTurn.{are_shown}
-use Rattle.folder_commands.specs.Runs.{AnswersRun, BreaksRun, CameToItsEnd, FailsRun, TellsCause, TellsRecalls, gather_fault}
+use Rattle.folder_commands.specs.Runs.{AnswersRun, AnswersUnless, BreaksRun, CameToItsEnd, FailsRun, TellsCause, TellsRecalls, Withholds, gather_fault}
 use Rattle.folder_commands.specs.Notes.{AreOfSites, EndsSo}
+use Rattle.trace_core.specs.declared.pairs.Pair.{Pair}
 use Rattle.folder_commands.specs.declared.notes.RunEnd.{RunEnd}
+use Rattle.folder_commands.specs.declared.runs.RunTerms.{RunTerms}
 
 module _ {K : Type 0} (shown : K → Option Record) where
   -- a keeper that stands where its list leads is open
@@ -54,10 +56,10 @@ module _ {K : Type 0} (shown : K → Option Record) where
       record { few = omega (arith, many, back, few); befores = omega (arith, long, many, back); afters = length-map new failed ∙ many }
 
   -- what is reported after a run of sites whose desks take no jobs
-  pub came_to_its_end : (failed : K → ℕ) (may : K → Record → Type 0) (turns : ℕ) (old new : List K) (ds : List DeskOut) (lists : List RunLog) (recalls : List StartedRecall) (end : RunEnd) (before : List ℕ) → AllZip (Began shown) old lists → AllZip (IsKept shown) new lists
-      → All (λ (d : DeskOut). d.limit ≡ 0) ds → AllZip HasEnd ds lists → AllZip (HasTurned shown turns) new lists → RanAsAWorld shown may old new lists → before ≡ map failed old
-      → TellsRecalls shown new recalls → EndsSo before (map failed new) lists recalls end → CameToItsEnd shown failed may turns old new recalls end
-  came_to_its_end failed may turns old new ds lists recalls end before began kept none ends turned run counts told noted = record {
+  pub came_to_its_end : (failed : K → ℕ) (may : K → Record → Type 0) (terms : RunTerms) (old new : List K) (ds : List DeskOut) (lists : List RunLog) (recalls : List StartedRecall) (end : RunEnd) (before : List ℕ) → AllZip (Began shown) old lists → AllZip (IsKept shown) new lists
+      → All (λ (d : DeskOut). d.limit ≡ 0) ds → AllZip HasEnd ds lists → AllZip (HasTurned shown terms.turns) new lists → RanAsAWorld shown may old new lists → before ≡ map failed old
+      → TellsRecalls shown new recalls → EndsSo before (map failed new) lists recalls end → CameToItsEnd shown failed may terms old new recalls end
+  came_to_its_end failed may terms old new ds lists recalls end before began kept none ends turned run counts told noted = record {
     lists = lists;
     began = began;
     kept = kept;
@@ -98,10 +100,10 @@ module _ {K : Type 0} (shown : K → Option Record) where
         subst StandTogether (up_records rs) (record { world = fit.again (world_up rs []) (up, refl); exact = fit.exact (world_up rs []) (up, refl) })
 
     -- inconsistent records are the outcome, and nothing else that prevents a run
-    pub misfit_told : (failed : K → ℕ) (turns : ℕ) (old new : List K) (cause : GatherCause) (outcome : Outcome) (end : Option RunEnd) → HindersRun shown new cause → FitAfter shown may old cause new → TellsCause cause outcome → end ≡ None
-        → AnswersRun shown failed may turns old new outcome end
-    misfit_told failed turns old new (NotAWorld (worlds.Misfit misfit)) outcome end (records, shows, dont) fit told none =
-        subst (λ o. AnswersRun shown failed may turns old new o end) (sym told) (
+    pub misfit_told : (failed : K → ℕ) (terms : RunTerms) (old new : List K) (cause : GatherCause) (outcome : Outcome) (end : Option RunEnd) → HindersRun shown new cause → FitAfter shown may old cause new → TellsCause cause outcome → end ≡ None
+        → AnswersRun shown failed may terms old new outcome end
+    misfit_told failed terms old new (NotAWorld (worlds.Misfit misfit)) outcome end (records, shows, dont) fit told none =
+        subst (λ o. AnswersRun shown failed may terms old new o end) (sym told) (
           record {
             records = records;
             shows = subst (λ ks. AreShown shown ks records) fit (are_shown shown new records shows);
@@ -110,35 +112,46 @@ module _ {K : Type 0} (shown : K → Option Record) where
           fit,
           none,
         )
-    misfit_told failed turns old new (NotAWorld worlds.NoMemory) outcome end hinders fit told none = absurd told
-    misfit_told failed turns old new (NotAWorld (worlds.OtherSites place)) outcome end hinders fit told none = absurd told
-    misfit_told failed turns old new (NotAWorld (worlds.Closed place)) outcome end hinders fit told none = absurd told
-    misfit_told failed turns old new NoMemory outcome end hinders fit told none = absurd told
-    misfit_told failed turns old new (SiteLost site) outcome end hinders fit told none = absurd told
-    misfit_told failed turns old new (GaveUp site) outcome end hinders fit told none = absurd told
+    misfit_told failed terms old new (NotAWorld worlds.NoMemory) outcome end hinders fit told none = absurd told
+    misfit_told failed terms old new (NotAWorld (worlds.OtherSites place)) outcome end hinders fit told none = absurd told
+    misfit_told failed terms old new (NotAWorld (worlds.Closed place)) outcome end hinders fit told none = absurd told
+    misfit_told failed terms old new NoMemory outcome end hinders fit told none = absurd told
+    misfit_told failed terms old new (SiteLost site) outcome end hinders fit told none = absurd told
+    misfit_told failed terms old new (GaveUp site) outcome end hinders fit told none = absurd told
 
 -- a run has an outcome where it ran, or where nothing was done
-pub ran_or_not : {K : Type 0} (shown : K → Option Record) (failed : K → ℕ) (may : K → Record → Type 0) (turns : ℕ) (old new : List K) (outcome : Outcome) (end : Option RunEnd) → AnswersRun shown failed may turns old new outcome end
-    → (new ≡ old) ⊎ ((lists : List RunLog) × RanAsAWorld shown may old new lists)
-ran_or_not shown failed may turns old new (outcomes.Ran recalls) (Some end) answers = inr (answers.lists, answers.run)
-ran_or_not shown failed may turns old new (outcomes.Inconsistent misfit) end answers = inl answers.1
-ran_or_not shown failed may turns old new (outcomes.Ran recalls) None answers = absurd answers
-ran_or_not shown failed may turns old new outcomes.Created end answers = absurd answers
-ran_or_not shown failed may turns old new (outcomes.Stepped effects) end answers = absurd answers
-ran_or_not shown failed may turns old new (outcomes.Reported recall report ways events) end answers = absurd answers
-ran_or_not shown failed may turns old new (outcomes.Traced trace ways events) end answers = absurd answers
-ran_or_not shown failed may turns old new (outcomes.TracedBack trace ways events) end answers = absurd answers
-ran_or_not shown failed may turns old new (outcomes.Standing recalls coded) end answers = absurd answers
-ran_or_not shown failed may turns old new (outcomes.Waiting detail coded) end answers = absurd answers
-ran_or_not shown failed may turns old new (outcomes.Known site items) end answers = absurd answers
-ran_or_not shown failed may turns old new (outcomes.WouldStart plan ended) end answers = absurd answers
-ran_or_not shown failed may turns old new (outcomes.Audited recalls) end answers = absurd answers
-ran_or_not shown failed may turns old new (outcomes.Gaps gaps coded) end answers = absurd answers
-ran_or_not shown failed may turns old new (outcomes.Refused whys) end answers = absurd answers
+module _ {K : Type 0} (shown : K → Option Record) (failed : K → ℕ) (may : K → Record → Type 0) (terms : RunTerms) (old new : List K) where
+  abbrev DidOrNot : Type 0
+  DidOrNot = (new ≡ old) ⊎ ((lists : List RunLog) × RanAsAWorld shown may old new lists)
+
+  pub ran_or_not : (outcome : Outcome) (end : Option RunEnd) → AnswersRun shown failed may terms old new outcome end → DidOrNot
+  ran_or_not (outcomes.Ran recalls coded) (Some end) answers = inr (answers.1.lists, answers.1.run)
+  ran_or_not (outcomes.Inconsistent misfit) end answers = inl answers.1
+  ran_or_not (outcomes.Ran recalls coded) None answers = absurd answers
+  ran_or_not outcomes.Withheld end answers = absurd answers
+  ran_or_not outcomes.Created end answers = absurd answers
+  ran_or_not (outcomes.Stepped effects) end answers = absurd answers
+  ran_or_not (outcomes.Reported recall report ways events) end answers = absurd answers
+  ran_or_not (outcomes.Traced trace ways events) end answers = absurd answers
+  ran_or_not (outcomes.TracedBack trace ways events) end answers = absurd answers
+  ran_or_not (outcomes.Standing recalls coded) end answers = absurd answers
+  ran_or_not (outcomes.Waiting detail coded) end answers = absurd answers
+  ran_or_not (outcomes.Known site items) end answers = absurd answers
+  ran_or_not (outcomes.WouldStart plan ended) end answers = absurd answers
+  ran_or_not (outcomes.Audited recalls coded) end answers = absurd answers
+  ran_or_not (outcomes.Gaps gaps coded) end answers = absurd answers
+  ran_or_not (outcomes.Refused whys) end answers = absurd answers
+
+  -- so it is of one that may be withheld
+  pub unless_or_not : (missed : List Pair) (outcome : Outcome) (end : Option RunEnd) → AnswersUnless shown failed may terms missed old new outcome end → DidOrNot
+  unless_or_not missed outcome end answers = ⊎_elim
+      (λ (w : Withholds shown failed may terms missed old new outcome end). inl w.3)
+      (λ (r : (terms.unless_gaps ≡ true → missed ≡ []) × AnswersRun shown failed may terms old new outcome end). ran_or_not outcome end r.1)
+      answers
 
 -- so it is of a run that broke off
-pub broke_or_not : {K G : Type 0} (shown : K → Option Record) (failed : K → ℕ) (may : K → Record → Type 0) (reopens : K → Result K (Unopened K) → Type 0) (gives_up : G → ℕ → ℕ → Type 0) (stored : K → Type 0) (folder : List ℕ) (turns : ℕ) (fault : Fault) (sites : List Site) (calls : List (FileCall K))
-    → (broke : BreaksRun shown failed may reopens gives_up stored folder turns fault sites calls) → (broke.after ≡ broke.keepers) ⊎ ((lists : List RunLog) × RanAsAWorld shown may broke.keepers broke.after lists)
-broke_or_not {K} {G} shown failed may reopens gives_up stored folder turns fault sites calls broke =
-    ⊎_elim (λ (f : FailsRun shown may reopens gives_up turns broke.keepers broke.after fault). f.ran)
-    (λ (m : (fault ≡ faults.NoMemory) × (outcome : Outcome) × (end : Option RunEnd) × AnswersRun shown failed may turns broke.keepers broke.after outcome end). ran_or_not shown failed may turns broke.keepers broke.after m.1 m.2 m.3) broke.came
+pub broke_or_not : {K G : Type 0} (shown : K → Option Record) (failed : K → ℕ) (may : K → Record → Type 0) (reopens : K → Result K (Unopened K) → Type 0) (gives_up : G → ℕ → ℕ → Type 0) (stored : K → Type 0) (folder : List ℕ) (terms : RunTerms) (fault : Fault) (sites : List Site) (calls : List (FileCall K))
+    → (broke : BreaksRun shown failed may reopens gives_up stored folder terms fault sites calls) → (broke.after ≡ broke.keepers) ⊎ ((lists : List RunLog) × RanAsAWorld shown may broke.keepers broke.after lists)
+broke_or_not {K} {G} shown failed may reopens gives_up stored folder terms fault sites calls broke =
+    ⊎_elim (λ (f : FailsRun shown may reopens gives_up terms.turns broke.keepers broke.after fault). f.ran)
+    (λ (m : (fault ≡ faults.NoMemory) × (missed : List Pair) × (outcome : Outcome) × (end : Option RunEnd) × AnswersUnless shown failed may terms missed broke.keepers broke.after outcome end). unless_or_not shown failed may terms broke.keepers broke.after m.1 m.2 m.3 m.4) broke.came

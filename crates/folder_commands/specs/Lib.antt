@@ -2,6 +2,7 @@ pub mod Batches
 pub mod Inputs
 pub mod Lints
 pub mod Making
+pub mod Missing
 pub mod NoteLaws
 pub mod Notes
 pub mod Runs

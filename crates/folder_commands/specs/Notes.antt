@@ -1,5 +1,5 @@
 -- What is noted of a run beside its recalls: which sites stopped, how often and why, and that a further run goes on.
-use Rattle.std.specs.Prelude.{◌≡◌, ◌==◌, ◌≤◌, ⊤, ℕ, ◌+◌, not, nat_lt, if◌then◌else◌, List, [], ◌∷◌, ◌++◌, length, Option, Some, None, string_bytes}
+use Rattle.std.specs.Prelude.{◌≡◌, ◌≢◌, ◌==◌, ◌≤◌, ℕ, ◌+◌, not, nat_lt, if◌then◌else◌, List, [], ◌∷◌, ◌++◌, length, Option, Some, None, string_bytes}
 use Rattle.std.specs.List.{AllZip, list_any}
 use Rattle.event_json.specs.Sites.{Site}
 use Rattle.recall_outcomes.specs.declared.notes.Notes.{Notes}
@@ -13,6 +13,7 @@ use Rattle.recall_text.specs.Words.{name_at}
 use Rattle.site_folders.specs.Paths.{file_path}
 use Rattle.site_threads.specs.Jobs.{stops_in}
 use Rattle.site_threads.specs.declared.lists.RunLog.{RunLog}
+use Rattle.trace_core.specs.declared.pairs.Pair.{Pair}
 use Rattle.folder_commands.specs.declared.notes.RunEnd.{RunEnd}
 use Rattle.folder_commands.specs.declared.notes.Stopped.{Stopped}
 
@@ -50,6 +51,12 @@ pub record AreOfSites (before after : List ℕ) (lists : List RunLog) : Type 0 w
 
 -- ---- what is noted
 
+-- what open recalls miss, if they miss anything
+abbrev pub NotesMissed : List Pair → Notes → Type 0
+NotesMissed missed notes.Nothing = missed ≡ []
+NotesMissed missed (notes.Missed found) = (found.items ≡ missed) × (missed ≢ [])
+NotesMissed missed other = ⊥
+
 module _ (knows : List ℕ → List ℕ → Type 0) (folder : List ℕ) (sites : List Site) where
   -- a site that stopped, with what the files know of the failures that its file met
   pub record NotesStop (stopped : Stopped) (stop : Stop) : Type 0 where
@@ -58,14 +65,15 @@ module _ (knows : List ℕ → List ℕ → Type 0) (folder : List ℕ) (sites :
     pub cause : stop.cause ≡ stopped.cause
     pub known : knows (file_path folder (name_at sites stopped.site)) (string_bytes stop.known)
 
-  -- what a run ended with
-  pub record NotesRun (end : RunEnd) (run : RunNotes) : Type 0 where
+  -- what a run ended with, and what open recalls missed before it
+  pub record NotesRun (missed : List Pair) (end : RunEnd) (run : RunNotes) : Type 0 where
+    pub missed_are : run.missed.items ≡ missed
     pub stops : AllZip NotesStop end.stops.items run.stops.items
     pub shared : run.shared ≡ end.shared
     pub unended : run.unended ≡ end.unended
 
-  -- where there was a run; else nothing
-  abbrev pub NotesEnd : Option RunEnd → Notes → Type 0
-  NotesEnd (Some end) (notes.Run run) = NotesRun end run
-  NotesEnd None notes.Nothing = ⊤
-  NotesEnd end noted = ⊥
+  -- where there was a run; else what open recalls miss
+  abbrev pub NotesEnd : List Pair → Option RunEnd → Notes → Type 0
+  NotesEnd missed (Some end) (notes.Run run) = NotesRun missed end run
+  NotesEnd missed (Some end) other = ⊥
+  NotesEnd missed None noted = NotesMissed missed noted

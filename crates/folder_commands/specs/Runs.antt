@@ -1,5 +1,5 @@
 -- What a run of all sites comes to.
-use Rattle.std.specs.Prelude.{◌≡◌, ◌⊎◌, ◌++◌, ℕ, List, All, length, map, Option, Some, None, Result}
+use Rattle.std.specs.Prelude.{◌≡◌, ◌≢◌, ◌⊎◌, ◌++◌, ℕ, true, List, [], All, length, map, Option, Some, None, Result}
 use Rattle.std.specs.List.{AllZip}
 use Rattle.event_json.specs.Sites.{Site}
 use Rattle.keeper_core.specs.declared.faults.Unopened.{Unopened}
@@ -27,8 +27,11 @@ use Rattle.site_folders.specs.Faults.{EndsInVain}
 use Rattle.site_folders.specs.FileCalls.{FileCall}
 use Rattle.site_folders.specs.Keepers.{AreShown, KeepFrom, closes_all, opens_from}
 use Rattle.site_folders.specs.Lists.{AfterList}
+use Rattle.trace_core.specs.declared.pairs.Pair.{Pair}
+use Rattle.folder_commands.specs.Missing.{AreMissed}
 use Rattle.folder_commands.specs.Notes.{EndsSo, NotesEnd}
 use Rattle.folder_commands.specs.declared.notes.RunEnd.{RunEnd}
+use Rattle.folder_commands.specs.declared.runs.RunTerms.{RunTerms}
 
 -- the keepers show records that stand together, and these are the recalls that sites have begun in them, in order
 pub record TellsRecalls {K : Type 0} (shown : K → Option Record) (keepers : List K) (recalls : List StartedRecall) : Type 0 where
@@ -43,7 +46,7 @@ pub record TellsTheMisfit {K : Type 0} (shown : K → Option Record) (keepers : 
   pub shows : AreShown shown keepers records
   pub is_misfit : IsMisfit (length records) (world_of records) misfit.condition misfit.site
 
-module _ {K : Type 0} (shown : K → Option Record) (failed : K → ℕ) (may : K → Record → Type 0) (turns : ℕ) where
+module _ {K : Type 0} (shown : K → Option Record) (failed : K → ℕ) (may : K → Record → Type 0) (terms : RunTerms) where
   -- each keeper is open in the record to which its steps lead from the one that it began with, and these are the recalls in
   -- them; each step is that of a frame, and each site's gate was asked for just these turns, or for fewer where the site is
   -- done. What the sites did is a run of the world, which comes out as the headline says. The notes are those of these
@@ -53,16 +56,25 @@ module _ {K : Type 0} (shown : K → Option Record) (failed : K → ℕ) (may : 
     pub began : AllZip (Began shown) old lists
     pub kept : AllZip (IsKept shown) new lists
     pub frames : All (λ l. AreOfFrames l.entries.items) lists
-    pub turned : AllZip (HasTurned shown turns) new lists
+    pub turned : AllZip (HasTurned shown terms.turns) new lists
     pub run : RanAsAWorld shown may old new lists
     pub told : TellsRecalls shown new recalls
     pub noted : EndsSo (map failed old) (map failed new) lists recalls end
 
   -- the run came to its end; or there was none, since the records aren't consistent, and the keepers are as they were
   abbrev pub AnswersRun : List K → List K → Outcome → Option RunEnd → Type 0
-  AnswersRun old new (outcomes.Ran recalls) (Some end) = CameToItsEnd old new recalls.items end
+  AnswersRun old new (outcomes.Ran recalls coded) (Some end) = (coded ≡ terms.coded) × CameToItsEnd old new recalls.items end
   AnswersRun old new (Inconsistent misfit) end = TellsTheMisfit shown old misfit × (new ≡ old) × (end ≡ None)
   AnswersRun old new other end = ⊥
+
+  -- where open recalls miss items and the terms say so, there was no run, and the keepers are as they were
+  abbrev pub Withholds : List Pair → List K → List K → Outcome → Option RunEnd → Type 0
+  Withholds missed old new outcome end = (terms.unless_gaps ≡ true) × (missed ≢ []) × (outcome ≡ outcomes.Withheld) × (new ≡ old) × (end ≡ None)
+
+  -- else there was, or could be
+  abbrev pub AnswersUnless : List Pair → List K → List K → Outcome → Option RunEnd → Type 0
+  AnswersUnless missed old new outcome end =
+      Withholds missed old new outcome end ⊎ ((terms.unless_gaps ≡ true → missed ≡ []) × AnswersRun old new outcome end)
 
 -- of the causes that prevent a run, the misfit alone is an outcome
 abbrev pub TellsWorldFault : WorldFault → Outcome → Type 0
@@ -98,28 +110,30 @@ pub record FailsRun {K G : Type 0} (shown : K → Option Record) (may : K → Re
   pub ran : (new ≡ old) ⊎ ((lists : List RunLog) × RanAsAWorld shown may old new lists)
 
 module _ {K : Type 0} (knows : List ℕ → List ℕ → Type 0) (shown : K → Option Record) (failed : K → ℕ) (may : K → Record → Type 0) (stored : K → Type 0) (folder : List ℕ) where
-  -- the files of all sites were opened, the sites ran for at most so many turns, and the files were closed, on each of
-  -- which a crash leaves the record that its keeper shows; then the notes were told, with what the files know of those of
-  -- the sites that stopped
-  pub record RunsAll (sites : List Site) (turns : ℕ) (output : Output) (calls : List (FileCall K)) : Type 0 where
+  -- the files of all sites were opened, the sites ran on these terms, and the files were closed, on each of which a crash
+  -- leaves the record that its keeper shows; then the notes were told, with what open recalls missed before the run, and
+  -- what the files know of those of the sites that stopped
+  pub record RunsAll (sites : List Site) (terms : RunTerms) (output : Output) (calls : List (FileCall K)) : Type 0 where
     pub keepers : List K
     pub records : List Record
     pub opened : KeepFrom shown stored sites 0 keepers records
     pub number : length keepers ≡ length sites
     pub after : List K
     pub end : Option RunEnd
-    pub told : AnswersRun shown failed may turns keepers after output.outcome end
+    pub missed : List Pair
+    pub missed_are : AreMissed records missed
+    pub told : AnswersUnless shown failed may terms missed keepers after output.outcome end
     pub lasts : All stored after
-    pub noted : NotesEnd knows folder sites end output.notes
+    pub noted : NotesEnd knows folder sites missed end output.notes
     pub calls_are : calls ≡ opens_from folder sites 0 keepers ++ closes_all after
 
-  -- all sites of a folder ran for at most so many turns
-  abbrev pub RunsAt : ℕ → Output → List (FileCall K) → Type 0
-  RunsAt turns output calls = AfterList folder (λ sites rest. (output.sites ≡ sites) × RunsAll sites turns output rest) calls
+  -- all sites of a folder ran on these terms
+  abbrev pub RunsAt : RunTerms → Output → List (FileCall K) → Type 0
+  RunsAt terms output calls = AfterList folder (λ sites rest. (output.sites ≡ sites) × RunsAll sites terms output rest) calls
 
 -- ---- where it has no outcome
 
-module _ {K G : Type 0} (shown : K → Option Record) (failed : K → ℕ) (may : K → Record → Type 0) (reopens : K → Result K (Unopened K) → Type 0) (gives_up : G → ℕ → ℕ → Type 0) (stored : K → Type 0) (folder : List ℕ) (turns : ℕ) where
+module _ {K G : Type 0} (shown : K → Option Record) (failed : K → ℕ) (may : K → Record → Type 0) (reopens : K → Result K (Unopened K) → Type 0) (gives_up : G → ℕ → ℕ → Type 0) (stored : K → Type 0) (folder : List ℕ) (terms : RunTerms) where
   -- the files of all sites were opened, and closed after the run, on each of which a crash leaves what its keeper shows, or may
   -- be opened in: the fault is that of the run; or the run is done, and memory ran out for what is noted of it
   pub record BreaksRun (fault : Fault) (sites : List Site) (calls : List (FileCall K)) : Type 0 where
@@ -129,8 +143,8 @@ module _ {K G : Type 0} (shown : K → Option Record) (failed : K → ℕ) (may 
     pub number : length keepers ≡ length sites
     pub after : List K
     pub came :
-        FailsRun shown may reopens gives_up turns keepers after fault
-        ⊎ ((fault ≡ faults.NoMemory) × (outcome : Outcome) × (end : Option RunEnd) × AnswersRun shown failed may turns keepers after outcome end)
+        FailsRun shown may reopens gives_up terms.turns keepers after fault
+        ⊎ ((fault ≡ faults.NoMemory) × (missed : List Pair) × (outcome : Outcome) × (end : Option RunEnd) × AnswersUnless shown failed may terms missed keepers after outcome end)
     pub lasts : All stored after
     pub calls_are : calls ≡ opens_from folder sites 0 keepers ++ closes_all after
 

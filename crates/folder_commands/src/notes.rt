@@ -2,7 +2,7 @@
 
 ghost use Rattle.std.specs.Prelude.{◌≡◌, ◌++◌, IfOk, OnOk, map, not};
 ghost use Rattle.std.specs.List.{AllZip, list_any};
-ghost use Rattle.folder_commands.specs.Notes.{AreOfSites, EndsSo, NotesEnd, NotesStop, cause_of, stop_at, stops_from};
+ghost use Rattle.folder_commands.specs.Notes.{AreOfSites, EndsSo, NotesEnd, NotesMissed, NotesStop, cause_of, stop_at, stops_from};
 
 use event_json::{SiteNo, Sites};
 use keeper_core::SiteKeeper;
@@ -10,6 +10,7 @@ use recall_outcomes::{Notes, RunNotes, StartedRecall, Stop, StopCause};
 use site_folders::{Files, file_path};
 use site_threads::RunLog;
 use std::alloc::{AllocError, Global};
+use trace_core::Pair;
 
 /// A site that stopped in steps of a run, after each of which it was opened again.
 #[derive(Clone, Copy, Debug)]
@@ -121,23 +122,36 @@ fn is_one_open(recalls: &[StartedRecall]) -> bool
     recalls.iter().any(|recall| !recall.ended)
 }
 
-/// The notes of a run, where there was one, once the sites' files are closed.
+/// The notes of a run, where there was one, once the sites' files are closed, and what open recalls missed before it.
 pub(crate) fn notes_of<K: SiteKeeper, F: Files<K>>(
     alloc: Global,
     files: &F,
     folder: &str,
     sites: &Sites,
     end: &Option<RunEnd>,
+    missed: Vec<Pair>,
 ) -> Result<Notes, AllocError>
-    ensures { IfOk result (NotesEnd (F.knows files.now) folder.now sites.now end.now) }
+    ensures { IfOk result (NotesEnd (F.knows files.now) folder.now sites.now missed.items end.now) }
 {
     match end {
         Some(end) => Ok(Notes::Run(RunNotes {
             stops: known_stops(alloc, files, folder, sites, end.stops.as_slice())?,
             shared: end.shared,
             unended: end.unended,
+            missed,
         })),
-        None => Ok(Notes::Nothing),
+        None => Ok(missed_notes(missed)),
+    }
+}
+
+/// What open recalls miss, if they miss anything.
+fn missed_notes(missed: Vec<Pair>) -> Notes
+    ensures { NotesMissed missed.items result }
+{
+    if missed.is_empty() {
+        Notes::Nothing
+    } else {
+        Notes::Missed(missed)
     }
 }
 

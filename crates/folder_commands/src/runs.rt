@@ -1,12 +1,17 @@
 //! `run`: all sites of a folder, each in a thread of its own.
 
-ghost use Rattle.std.specs.Prelude.{◌≡◌, ◌≤◌, None, Some, All, IfErr, IfOk, IsSome, length, map};
+ghost use Rattle.std.specs.Prelude.{◌≡◌, ◌≤◌, List, None, Some, All, IfErr, IfOk, IsSome, length, map};
+ghost use Rattle.site_core.specs.Records.{Record};
+ghost use Rattle.site_recovery.specs.FittingAt.{AreAllSites};
 ghost use Rattle.site_threads.specs.Ends.{IsUnused};
 ghost use Rattle.site_threads.specs.Gathering.{KeepersFit};
 ghost use Rattle.site_folders.specs.FileCalls.{Led};
+ghost use Rattle.site_folders.specs.Keepers.{AreShown};
+ghost use Rattle.folder_commands.specs.Missing.{AreMissed};
 ghost use Rattle.folder_commands.specs.Notes.{AreOfSites, EndsSo};
-ghost use Rattle.folder_commands.specs.Runs.{AnswersRun, FailsRun, RunFails, RunsAt, TellsCause, TellsRecalls, gather_fault};
+ghost use Rattle.folder_commands.specs.Runs.{AnswersRun, AnswersUnless, FailsRun, RunFails, RunsAt, TellsCause, TellsRecalls, gather_fault};
 
+use crate::missing::missed_before;
 use crate::notes::{RunEnd, end_of, failures_of, notes_of};
 use keeper_core::SiteKeeper;
 use recall_outcomes::{Fault, Outcome, Output, StartedRecall};
@@ -16,7 +21,19 @@ use std::alloc::{AllocError, Global};
 use std::sync::Wait;
 use std::thread::Threads;
 use std::time::Clock;
+use trace_core::Pair;
 use world_core::WorldFault;
+
+/// On which terms the sites of a folder run.
+#[derive(Clone, Copy, Debug)]
+pub struct RunTerms {
+    /// For how many turns: at most 1,000,000.
+    pub turns: u64,
+    /// Whether they don't run where open recalls miss items.
+    pub unless_gaps: bool,
+    /// Whether the program's status tells that a recall is open after it.
+    pub coded: bool,
+}
 
 /// A run of all sites: what it came to, and what it ended with, where there was one.
 #[derive(Debug, Drop)]
@@ -25,15 +42,15 @@ struct Ran {
     end: Option<RunEnd>,
 }
 
-/// Runs all sites of a folder, each in a thread of its own, where one can be made, for `turns` turns, at most
-/// 1,000,000.
+/// Runs all sites of a folder, each in a thread of its own, where one can be made.
 ///
 /// Frames go from site to site, and nothing else is done: each step of a site is that of a frame. The outcome has each
 /// recall that a site began, by site and number: whether it has ended, or is open. The notes name each site that
 /// stopped in a step, how often, and why: `Device` where its device failed in the run, else `Store`; behind that they
 /// say what is known of the site's file. They tell where sites shared threads, and where a recall is open that a
-/// further run goes on with it. Where the records aren't consistent, there is no run, and that is the outcome. Each
-/// site has a copy of the gate to its turns.
+/// further run goes on with it; and they have the items that recalls reach which were open before the run, and that sites
+/// sent on with something that others packed: what the recalls miss. Where there are such and the terms say so, and where
+/// the records aren't consistent, there is no run, and that is the outcome. Each site has a copy of the gate to its turns.
 ///
 /// # Errors
 /// In this order: those of the folder's list, those of opening the sites' files, and those of `run_of`; after these
@@ -43,9 +60,17 @@ pub fn run_sites<
     F: Files<K>,
     G: Gate + Copy + Send,
     R: Threads + Wait + Clock + Sync,
->(rt: &R, alloc: Global, files: &mut F, gate: G, folder: &str, turns: u64) -> Result<Output, Fault>
-    requires turns { turns ≤ 1000000 }
-    // The files of all sites are opened, their keepers are run by `run_of`, and the files are closed.
+>(
+    rt: &R,
+    alloc: Global,
+    files: &mut F,
+    gate: G,
+    folder: &str,
+    terms: RunTerms,
+) -> Result<Output, Fault>
+    requires turns { terms.turns ≤ 1000000 }
+    // The files of all sites are opened, their keepers are run by `run_of`, and the files are closed; or, where open
+    // recalls miss items and the terms say so, nothing is run.
     //
     // Each keeper is open afterwards in the record to which its steps lead from the one that it began with, each the
     // step of a frame; each gate was asked for all turns of the run, or for fewer where the site is done, so that a
@@ -53,21 +78,22 @@ pub fn run_sites<
     // run of the world, which comes out as the headline says.
     //
     // The notes of a run name just the sites that stopped in steps of it, in order, with the number of these steps, and
-    // `Device` where the count of its device's failures rose in the run, else `Store`; and whether a recall is open.
+    // `Device` where the count of its device's failures rose in the run, else `Store`; whether a recall is open; and just
+    // the items that the roots of recalls reach which were open before, and that are missed.
     //
     // Where the records aren't consistent before the run, the condition and the site are reported, and nothing has
     // changed.
     ensures calls { IfOk result (λ output. Led F.does files.old files.new
-        (RunsAt (F.knows files.new) K.shown K.failed K.may K.stored folder.now turns output)) }
+        (RunsAt (F.knows files.new) K.shown K.failed K.may K.stored folder.now terms output)) }
     ensures failed { IfErr result (λ fault. Led F.does files.old files.new
-        (RunFails K.shown K.failed K.may K.reopens G.gives_up K.stored folder.now turns fault)) }
+        (RunFails K.shown K.failed K.may K.reopens G.gives_up K.stored folder.now terms fault)) }
 {
     let sites = sites_of(alloc, files, folder)?;
     let keepers = open_all(alloc, files, folder, &sites)?;
-    let (after, ran) = run_of(rt, alloc, keepers, gate, turns);
+    let (after, ran) = run_unless(rt, alloc, keepers, gate, terms);
     close_all(files, after);
-    let Ran { outcome, end } = ran?;
-    let notes = notes_of(alloc, files, folder, &sites, &end)?;
+    let (Ran { outcome, end }, missed) = ran?;
+    let notes = notes_of(alloc, files, folder, &sites, &end, missed)?;
     Ok(Output {
         sites,
         outcome,
@@ -75,9 +101,49 @@ pub fn run_sites<
     })
 }
 
-/// Runs the sites of these keepers, in the order of their numbers, for `turns` turns, at most 1,000,000. Each has a
-/// copy of the gate to its turns. The keepers are given back, open where there is an outcome; then what the sites did
-/// is a run of the world, which comes out as that of `World::run` does.
+/// Runs the sites of these keepers, unless open recalls miss items and the terms say so: then they are as they were.
+/// Beside that, what open recalls miss before it.
+///
+/// # Errors
+/// `NoMemory` before the run, with the keepers as they were; and those of `run_of`.
+fn run_unless<K: SiteKeeper + Send, G: Gate + Copy + Send, R: Threads + Wait + Clock + Sync>(
+    rt: &R,
+    alloc: Global,
+    keepers: Vec<K>,
+    gate: G,
+    terms: RunTerms,
+) -> (Vec<K>, Result<(Ran, Vec<Pair>), Fault>)
+    requires count { (2 ≤ length keepers.items) × (length keepers.items ≤ 16) }
+    requires turns { terms.turns ≤ 1000000 }
+    requires shown { (rs : List Record) × AreShown K.shown keepers.items rs × AreAllSites rs }
+    ensures missed { IfOk result.1 (λ told. (rs : List Record) → AreShown K.shown keepers.items rs
+        → AreMissed rs told.1.items) }
+    ensures answered { IfOk result.1 (λ told. AnswersUnless K.shown K.failed K.may terms told.1.items
+        keepers.items result.0.items told.0.outcome told.0.end) }
+    ensures stored { All K.stored keepers.items → All K.stored result.0.items }
+    ensures failed { IfErr result.1 (FailsRun K.shown K.may K.reopens G.gives_up terms.turns
+        keepers.items result.0.items) }
+{
+    let Ok(missed) = missed_before(alloc, keepers.as_slice()) else {
+        return (keepers, Err(Fault::NoMemory));
+    };
+    if terms.unless_gaps && !missed.is_empty() {
+        let withheld = Ran {
+            outcome: Outcome::Withheld,
+            end: None,
+        };
+        return (keepers, Ok((withheld, missed)));
+    }
+    let (after, ran) = run_of(rt, alloc, keepers, gate, terms);
+    match ran {
+        Ok(ran) => (after, Ok((ran, missed))),
+        Err(fault) => (after, Err(fault)),
+    }
+}
+
+/// Runs the sites of these keepers, in the order of their numbers. Each has a copy of the gate to its turns. The keepers
+/// are given back, open where there is an outcome; then what the sites did is a run of the world, which comes out as
+/// that of `World::run` does.
 ///
 /// # Errors
 /// `OtherSites` where the keepers aren't of one list of sites, in order, and `Closed` where one is closed: they are as
@@ -91,26 +157,29 @@ fn run_of<K: SiteKeeper + Send, G: Gate + Copy + Send, R: Threads + Wait + Clock
     alloc: Global,
     keepers: Vec<K>,
     gate: G,
-    turns: u64,
+    terms: RunTerms,
 ) -> (Vec<K>, Result<Ran, Fault>)
     requires count { (2 ≤ length keepers.items) × (length keepers.items ≤ 16) }
-    requires turns { turns ≤ 1000000 }
+    requires turns { terms.turns ≤ 1000000 }
     ensures answered { IfOk result.1 (λ ran.
-        AnswersRun K.shown K.failed K.may turns keepers.items result.0.items ran.outcome
+        AnswersRun K.shown K.failed K.may terms keepers.items result.0.items ran.outcome
         ran.end) }
     // Whether it has an answer or not, what the keepers stored before the run they store after it.
     ensures stored { All K.stored keepers.items → All K.stored result.0.items }
-    ensures failed { IfErr result.1 (FailsRun K.shown K.may K.reopens G.gives_up turns keepers.items
-        result.0.items) }
+    ensures failed { IfErr result.1 (FailsRun K.shown K.may K.reopens G.gives_up terms.turns
+        keepers.items result.0.items) }
 {
     let Ok((desks, gates, before)) = before_run(alloc, gate, keepers.as_slice()) else {
         return (keepers, Err(Fault::NoMemory));
     };
-    match run_world(rt, alloc, keepers, desks, gates, turns) {
+    match run_world(rt, alloc, keepers, desks, gates, terms.turns) {
         Ok(run) => {
             let ran = match tell_run(alloc, before.as_slice(), &run) {
                 Ok((recalls, end)) => Ok(Ran {
-                    outcome: Outcome::Ran(recalls),
+                    outcome: Outcome::Ran {
+                        recalls,
+                        coded: terms.coded,
+                    },
                     end: Some(end),
                 }),
                 Err(_) => Err(Fault::NoMemory),

@@ -34,9 +34,9 @@ NotesStuck records (Stuck found) = (found.items ≡ flat_map stuck_from records)
 NotesStuck records other = ⊥
 
 -- The records are consistent, and each recall that a site began was audited, one for one and in order, with a note of what is
--- stuck; or the records aren't consistent, and that is the outcome.
-abbrev pub AnswersAudit : List Record → Outcome → Notes → Type 0
-AnswersAudit records (Audited recalls) notes =
-    Fits (world_of records) [] × AllZip (AuditsRecall records) (begun records) recalls.items × NotesStuck records notes
-AnswersAudit records (Inconsistent misfit) notes = IsMisfit (length records) (world_of records) misfit.condition misfit.site × (notes ≡ Nothing)
-AnswersAudit records other notes = ⊥
+-- stuck, and with the status that was asked for; or the records aren't consistent, and that is the outcome.
+abbrev pub AnswersAudit : List Record → Bool → Outcome → Notes → Type 0
+AnswersAudit records coded (Audited recalls told) notes =
+    (told ≡ coded) × Fits (world_of records) [] × AllZip (AuditsRecall records) (begun records) recalls.items × NotesStuck records notes
+AnswersAudit records coded (Inconsistent misfit) notes = IsMisfit (length records) (world_of records) misfit.condition misfit.site × (notes ≡ Nothing)
+AnswersAudit records coded other notes = ⊥

@@ -16,7 +16,9 @@ use Rattle.world_core.specs.Faults.{AreOneWorld}
 use Rattle.world_core.specs.Worlds.{WorldState, records}
 use Rattle.folder_questions.specs.Audits.{AnswersAudit}
 use Rattle.folder_questions.specs.Traces.{AnswersTrace}
+use Rattle.site_recovery.specs.Fit.{Fits}
 use Rattle.site_recovery.specs.Laws.{captured_of}
+use Rattle.site_recovery.specs.Looks.{world_of}
 use Rattle.trace_core.specs.Gaps.{IsSent, WideRelated, by_known, by_own}
 use Rattle.trace_core.specs.Relations.{Reaches}
 use Rattle.trace_core.specs.Sites.{SiteEvents}
@@ -26,21 +28,22 @@ use Rattle.trace_core.specs.declared.pairs.Pair.{Pair}
 -- nothing, no recall is stuck: as long as numbers are left, frames end it, whichever sites are open.
 abbrev pub AuditedRecallsCanEnd : Type 0
 AuditedRecallsCanEnd =
-    (world : WorldState) (recalls : Vec AuditedRecall Global) (recall : Recall) (root : List ℕ)
+    (world : WorldState) (recalls : Vec AuditedRecall Global) (coded told : Bool) (recall : Recall) (root : List ℕ)
     → world.sent ≡ []
     → AreOneWorld (records world)
     → ((place : ℕ) (r : Record) → slice_get (records world) place ≡ Some r → IsSound r)
-    → AnswersAudit (records world) (Audited recalls) Nothing
+    → AnswersAudit (records world) coded (Audited recalls told) Nothing
     → HasBegun recall root (records world)
     → ((place : ℕ) (r : Record) → slice_get (records world) place ≡ Some r → HasNumbersFor recall r)
     → CanEnd recall root world
 
--- A trace beside which nothing is noted has just the pairs that the item reaches by all packings that are known at the sites; and of each
+-- A trace beside which nothing is noted is of records that agree, and has just the pairs that the item reaches by all packings that are known at the sites; and of each
 -- of them the item left for just those places outside for which it is known to have left.
 abbrev pub UnnotedTracesMissNothing : Type 0
 UnnotedTracesMissNothing =
     (records : List Record) (site : ℕ) (item : List ℕ) (ways : Ways) (events : Bool) (trace : Trace) (told : Ways) (behind : Option (Vec (List StepEvents) Global))
     → AnswersTrace records site item false ways events (Traced trace told behind) Nothing
-    → ((p : Pair) → Contains trace.pairs p ↔ Reaches (WideRelated (captured_of records)) trace.root p)
+    → Fits (world_of records) []
+    × ((p : Pair) → Contains trace.pairs p ↔ Reaches (WideRelated (captured_of records)) trace.root p)
     × ((s : SiteEvents) (i text : List ℕ) → Contains (captured_of records) s → Contains trace.pairs (record { site = s.me; item = i })
     → IsSent (by_known (captured_of records)) s i (inr text) ↔ IsSent by_own s i (inr text))

@@ -1,5 +1,6 @@
 pub mod Asked
 pub mod Audits
+pub mod Beside
 pub mod DryStarts
 pub mod Gaps
 pub mod Knowers

@@ -12,15 +12,16 @@ use Rattle.recall_outcomes.specs.declared.outcomes.Ways.{Ways}
 use Rattle.site_core.specs.Records.{Record}
 use Rattle.site_recovery.specs.Looks.{own, world_of}
 use Rattle.site_folders.specs.Refusals.{IsRefusal}
+use Rattle.folder_questions.specs.Beside.{Beside}
 use Rattle.folder_questions.specs.Gaps.{NotesMissed}
 use Rattle.folder_questions.specs.TrailEvents.{TellsEvents, steps_to}
 
--- The recall is reported, and its ways, and the events behind them, are told as they were asked for, with a note of what is missed; or
+-- The recall is reported, and its ways, and the events behind them, are told as they were asked for, with a note of how the records contradict each other, and else of what is missed; or
 -- it is refused, since no site began it.
 abbrev pub AnswersReport : List Record → Recall → Ways → Bool → Outcome → Notes → Type 0
 AnswersReport records r ways events (Reported of report told behind) notes =
     (of ≡ r) × (told ≡ ways) × IsReport records r report × TellsEvents records events (steps_to ways) (map or_no_pairs report.trails) behind
-    × NotesMissed records report.pairs notes
+    × Beside records (NotesMissed records report.pairs) notes
 AnswersReport records r ways events (Refused whys) notes =
     (own (world_of records) r.site r.number ≡ None) × IsRefusal UnknownRecall (Refused whys) × (notes ≡ Nothing)
 AnswersReport records r ways events other notes = ⊥

@@ -11,6 +11,7 @@ use Rattle.site_core.specs.Records.{Record}
 use Rattle.site_core.specs.declared.outcomes.Refusal.TheVariants.{UnknownItem}
 use Rattle.site_recovery.specs.Looks.{world_of}
 use Rattle.site_folders.specs.Refusals.{IsRefusal}
+use Rattle.folder_questions.specs.Beside.{Beside}
 use Rattle.folder_questions.specs.Gaps.{NotesMissed}
 use Rattle.folder_questions.specs.TrailEvents.{TellsEvents, steps_from, steps_to}
 
@@ -19,13 +20,13 @@ abbrev pub RefusesUnknown : List Record → ℕ → List ℕ → Outcome → Typ
 RefusesUnknown records site item outcome = (IsKnownAt (world_of records) site item → ⊥) × IsRefusal (Step UnknownItem) outcome
 
 -- The item at the site is traced to where it went, or back to where it came from, and its ways, and the events behind them, are told
--- as they were asked for; or the site doesn't know it. Of where it went it is noted what is missed.
+-- as they were asked for; or the site doesn't know it. It is noted how the records contradict each other, and else, of where it went, what is missed.
 abbrev pub AnswersTrace : List Record → ℕ → List ℕ → Bool → Ways → Bool → Outcome → Notes → Type 0
 AnswersTrace records site item false ways events (Traced trace told behind) notes =
     (told ≡ ways) × IsTrace records site item trace × IsKnownAt (world_of records) site item × TellsEvents records events (steps_to ways) trace.trails behind
-    × NotesMissed records trace.pairs notes
+    × Beside records (NotesMissed records trace.pairs) notes
 AnswersTrace records site item true ways events (TracedBack trace told behind) notes =
     (told ≡ ways) × IsBackTrace records site item trace × IsKnownAt (world_of records) site item × TellsEvents records events (steps_from ways) trace.trails behind
-    × (notes ≡ Nothing)
+    × Beside records (λ noted. noted ≡ Nothing) notes
 AnswersTrace records site item back ways events (Refused whys) notes = RefusesUnknown records site item (Refused whys) × (notes ≡ Nothing)
 AnswersTrace records site item back ways events other notes = ⊥

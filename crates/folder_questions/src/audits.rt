@@ -20,7 +20,10 @@ use std::alloc::{AllocError, Global};
 /// Whether the records are consistent, and how the quarantine of each recall that ended compares with what it is to be;
 /// and beside that, at which sites a recall waits in vain.
 #[derive(Drop)]
-pub struct Audit {}
+pub struct Audit {
+    /// Whether the program's status tells that a recall is open.
+    pub coded: bool,
+}
 
 impl Question for Audit {
     ghost use Rattle.std.specs.Prelude.{⊤};
@@ -37,7 +40,7 @@ impl Question for Audit {
     // The condition and the site of inconsistent records; or that they are consistent, with each recall that a site
     // began, one for one and in order: that it is open, or the verdict on it; and noted beside that, where there is
     // any, each site that takes part in a recall without a message of it.
-    ghost answers = { λ q asked rs told. AnswersAudit rs told.0 told.1 };
+    ghost answers = { λ q asked rs told. AnswersAudit rs q.coded told.0 told.1 };
 
     fn read(
         &self,
@@ -55,8 +58,11 @@ impl Question for Audit {
     ) -> Result<(Outcome, Notes), AllocError> {
         match check_world(alloc, records) {
             Ok(()) => {
-                let audited = audit_recalls(alloc, records)?;
-                Ok((Outcome::Audited(audited), stuck_notes(alloc, records)?))
+                let audited = Outcome::Audited {
+                    recalls: audit_recalls(alloc, records)?,
+                    coded: self.coded,
+                };
+                Ok((audited, stuck_notes(alloc, records)?))
             }
             Err(CheckFault::Misfit(misfit)) => {
                 Ok((Outcome::Inconsistent(misfit), Notes::Nothing))

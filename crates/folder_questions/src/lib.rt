@@ -4,6 +4,7 @@
 
 mod asked;
 mod audits;
+mod beside;
 mod dry_starts;
 mod gaps;
 mod knowers;

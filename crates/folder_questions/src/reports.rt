@@ -8,7 +8,7 @@ ghost use Rattle.site_recovery.specs.FittingAt.{AreAllSites};
 ghost use Rattle.folder_questions.specs.TrailEvents.{TellsEvents, steps_to};
 
 use crate::asked::recall_at;
-use crate::gaps::missed_notes;
+use crate::beside::notes_beside;
 use crate::trail_events::is_brief;
 use event_json::{Sequence, Sites};
 use frame_core::RecallId;
@@ -41,8 +41,8 @@ impl Question for ReportOf<'_> {
     ghost asks = { λ q sites recall. AsksRecall q.recall.now sites recall };
 
     // The recall's report, where it is asked for with the events behind the steps that are told, and `UnknownRecall`
-    // exactly where no site began the recall; and noted beside it, where there are any, just those of its pairs that
-    // are missed.
+    // exactly where no site began the recall; and noted beside it how the records contradict each other, or, where
+    // they don't, just those of its pairs that are missed.
     ghost answers = { λ q recall rs told.
         AnswersReport rs recall q.ways q.events told.0 told.1 };
 
@@ -65,7 +65,7 @@ impl Question for ReportOf<'_> {
     ) -> Result<(Outcome, Notes), AllocError> {
         match told_report(alloc, records, recall, self.ways, self.events) {
             Ok((report, events)) => {
-                let notes = missed_notes(alloc, records, report.pairs.as_slice())?;
+                let notes = notes_beside(alloc, records, report.pairs.as_slice())?;
                 let outcome = Outcome::Reported {
                     recall,
                     report,

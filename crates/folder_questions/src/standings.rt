@@ -1,10 +1,13 @@
 //! `status`: how recalls stand, and what one of them waits for.
 
+ghost use Rattle.std.specs.Prelude.{◌≡◌};
+
 use crate::asked::recall_at;
+use crate::beside::misfit_notes;
 use event_json::Sites;
 use frame_core::RecallId;
 use query_core::{QueryFault, recall_detail, recall_statuses};
-use recall_outcomes::{CommandRefusal, Outcome};
+use recall_outcomes::{CommandRefusal, Notes, Outcome};
 use site_core::SiteState;
 use site_folders::{Question, refusal};
 use std::alloc::{AllocError, Global};
@@ -22,16 +25,20 @@ impl Question for Statuses {
 
     type Asked = ();
 
-    type Answer = Outcome;
+    type Answer = (Outcome, Notes);
 
-    ghost refuses = { λ q sites outcome. ⊥ };
+    ghost refuses = { λ q sites told. ⊥ };
 
     ghost asks = { λ q sites asked. ⊤ };
 
-    // How the recalls stand.
-    ghost answers = { λ q asked rs outcome. AnswersRecalls rs q.coded outcome };
+    // How the recalls stand, and how the records contradict each other, if they do.
+    ghost answers = { λ q asked rs told. AnswersRecalls rs q.coded told.0 told.1 };
 
-    fn read(&self, _alloc: Global, _sites: &Sites) -> Result<Result<(), Outcome>, AllocError> {
+    fn read(
+        &self,
+        _alloc: Global,
+        _sites: &Sites,
+    ) -> Result<Result<(), (Outcome, Notes)>, AllocError> {
         Ok(Ok(()))
     }
 
@@ -40,11 +47,12 @@ impl Question for Statuses {
         alloc: Global,
         _asked: (),
         records: &[&SiteState],
-    ) -> Result<Outcome, AllocError> {
-        Ok(Outcome::Standing {
+    ) -> Result<(Outcome, Notes), AllocError> {
+        let standing = Outcome::Standing {
             recalls: recall_statuses(alloc, records)?,
             coded: self.coded,
-        })
+        };
+        Ok((standing, misfit_notes(alloc, records)?))
     }
 }
 
@@ -59,20 +67,28 @@ pub struct StatusOf<'a> {
 impl Question for StatusOf<'_> {
     ghost use Rattle.folder_questions.specs.Asked.{AsksRecall, RefusesRecall};
     ghost use Rattle.folder_questions.specs.Standings.{AnswersRecall};
+    ghost use Rattle.recall_outcomes.specs.declared.notes.Notes.TheVariants.{Nothing};
 
     type Asked = RecallId;
 
-    type Answer = Outcome;
+    type Answer = (Outcome, Notes);
 
-    ghost refuses = { λ q sites outcome. RefusesRecall q.recall.now sites outcome };
+    ghost refuses = { λ q sites told. RefusesRecall q.recall.now sites told.0 × (told.1 ≡ Nothing) };
 
     ghost asks = { λ q sites recall. AsksRecall q.recall.now sites recall };
 
-    // How the recall stands, and what it waits for.
-    ghost answers = { λ q recall rs outcome. AnswersRecall rs recall q.coded outcome };
+    // How the recall stands, and what it waits for, and how the records contradict each other, if they do.
+    ghost answers = { λ q recall rs told. AnswersRecall rs recall q.coded told.0 told.1 };
 
-    fn read(&self, alloc: Global, sites: &Sites) -> Result<Result<RecallId, Outcome>, AllocError> {
-        recall_at(alloc, sites, self.recall)
+    fn read(
+        &self,
+        alloc: Global,
+        sites: &Sites,
+    ) -> Result<Result<RecallId, (Outcome, Notes)>, AllocError> {
+        match recall_at(alloc, sites, self.recall)? {
+            Ok(recall) => Ok(Ok(recall)),
+            Err(refused) => Ok(Err((refused, Notes::Nothing))),
+        }
     }
 
     fn answer(
@@ -80,13 +96,21 @@ impl Question for StatusOf<'_> {
         alloc: Global,
         recall: RecallId,
         records: &[&SiteState],
-    ) -> Result<Outcome, AllocError> {
+    ) -> Result<(Outcome, Notes), AllocError> {
         match recall_detail(alloc, records, recall) {
-            Ok(detail) => Ok(Outcome::Waiting {
-                detail,
-                coded: self.coded,
-            }),
-            Err(QueryFault::UnknownRecall) => refusal(alloc, CommandRefusal::UnknownRecall),
+            Ok(detail) => {
+                let waiting = Outcome::Waiting {
+                    detail,
+                    coded: self.coded,
+                };
+                Ok((waiting, misfit_notes(alloc, records)?))
+            }
+            Err(QueryFault::UnknownRecall) => {
+                Ok((
+                    refusal(alloc, CommandRefusal::UnknownRecall)?,
+                    Notes::Nothing,
+                ))
+            }
             Err(QueryFault::NoMemory) => Err(AllocError),
         }
     }

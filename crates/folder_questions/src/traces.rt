@@ -11,7 +11,7 @@ ghost use Rattle.folder_questions.specs.Traces.{AnswersTrace};
 ghost use Rattle.folder_questions.specs.TrailEvents.{TellsEvents, steps_from, steps_to};
 
 use crate::asked::item_at;
-use crate::gaps::missed_notes;
+use crate::beside::{misfit_notes, notes_beside};
 use crate::trail_events::is_brief;
 use epc_core::Epc;
 use event_json::{Sequence, SiteNo, Sites};
@@ -49,8 +49,9 @@ impl Question for TraceOf<'_> {
 
     ghost asks = { λ q sites asked. AsksItem q.site.now q.item sites asked.0 asked.1 };
 
-    // A trace of the item, forward or back, or `UnknownItem` exactly where the site doesn't know it; and noted beside a
-    // trace forward, where there are any, just those of its pairs that are missed.
+    // A trace of the item, forward or back, or `UnknownItem` exactly where the site doesn't know it; and noted beside it
+    // how the records contradict each other, or, where they don't, of a trace forward just those of its pairs that are
+    // missed.
     ghost answers = { λ q asked rs told.
         AnswersTrace rs asked.0 asked.1 q.back q.ways q.events told.0 told.1 };
 
@@ -95,7 +96,7 @@ fn forward_of(
 {
     match told_trace(alloc, records, site, item, ways, events) {
         Ok((trace, events)) => {
-            let notes = missed_notes(alloc, records, trace.pairs.as_slice())?;
+            let notes = notes_beside(alloc, records, trace.pairs.as_slice())?;
             let outcome = Outcome::Traced {
                 trace,
                 ways,
@@ -151,7 +152,7 @@ fn back_of(
                 ways,
                 events,
             };
-            Ok((outcome, Notes::Nothing))
+            Ok((outcome, misfit_notes(alloc, records)?))
         }
         Err(fault) => Ok((untraced(alloc, fault)?, Notes::Nothing)),
     }

@@ -755,6 +755,7 @@ has name d = names_it name (members_in d)
 abbrev kind_in : Data → ℕ
 kind_in d =
     if has (codes "created") d then 0 else
+    if has (codes "withheld") d then 14 else
     if has (codes "refused") d then 12 else
     if has (codes "audit") d then 10 else
     if has (codes "misfit") d then 11 else
@@ -820,7 +821,7 @@ kind_told : (sites : List Site) (o : Outcome) → 0 < length (outcome_json sites
 unfolding account_json status_json detail_json gaps_json
 kind_told sites outcomes.Created some = refl
 kind_told sites (outcomes.Stepped done) some = ap Some (effects_kind sites done)
-kind_told sites (outcomes.Ran recalls) some = listed_kind (ran_json sites) 2 (λ b. refl) recalls.items some
+kind_told sites (outcomes.Ran recalls coded) some = listed_kind (ran_json sites) 2 (λ b. refl) recalls.items some
 kind_told sites (outcomes.Reported r report ways events) some = refl
 kind_told sites (outcomes.Traced trace ways events) some = refl
 kind_told sites (outcomes.TracedBack trace ways events) some = refl
@@ -828,7 +829,8 @@ kind_told sites (outcomes.Standing recalls coded) some = listed_kind (status_jso
 kind_told sites (outcomes.Waiting detail coded) some = refl
 kind_told sites (outcomes.Known site known) some = listed_kind (known_json sites site) 8 (λ k. refl) known.items some
 kind_told sites (outcomes.WouldStart quarantined messages) some = refl
-kind_told sites (outcomes.Audited recalls) some = listed_kind (audited_json sites) 10 (λ b. verdict_kind sites b.recall b.verdict) recalls.items some
+kind_told sites outcomes.Withheld some = refl
+kind_told sites (outcomes.Audited recalls coded) some = listed_kind (audited_json sites) 10 (λ b. verdict_kind sites b.recall b.verdict) recalls.items some
 kind_told sites (outcomes.Inconsistent misfit) some = refl
 kind_told sites (outcomes.Gaps gaps coded) some = refl
 kind_told sites (outcomes.Refused whys) some = listed_kind (why_json sites) 12 (why_kind sites) whys.items some

@@ -31,7 +31,7 @@ use Rattle.site_core.specs.declared.outcomes.Refusal.{Refusal}
 use Rattle.site_core.specs.declared.outcomes.Refusal.TheVariants as steps
 use Rattle.trace_core.specs.declared.pairs.Pair.{Pair}
 use Rattle.outcome_forms.specs.Accounts.{told_events}
-use Rattle.outcome_forms.specs.Json.{Shown, whole, before, behind, account_json, audited_json, beside_json, created_json, detail_json, effects_json, engaged_json, event_json, gaps_json, known_json, line_members, list_of, misfit_json, outcome_json, outside_json, packed_json, pair_json, part_json, ran_json, root_json, shown_members, shown_way, standing_json, status_json, step_json, step_members, text_or_null, titled_json, trail_json, unseen_json, used_json, verdict_json, waiting_json, why_json, with_events, would_json}
+use Rattle.outcome_forms.specs.Json.{Shown, whole, before, behind, account_json, audited_json, beside_json, created_json, detail_json, effects_json, engaged_json, event_json, gaps_json, known_json, line_members, list_of, misfit_json, outcome_json, outside_json, packed_json, pair_json, part_json, ran_json, root_json, shown_members, shown_way, standing_json, status_json, step_json, step_members, text_or_null, titled_json, trail_json, unseen_json, used_json, verdict_json, waiting_json, why_json, with_events, would_json, withheld_json}
 use Rattle.outcome_forms.specs.Telling.{ValuesAreRead}
 use Rattle.outcome_forms.proofs.Reading.{IsTree, all_read, deeper, tree_free}
 
@@ -188,7 +188,7 @@ each_tree of each (x ∷ xs) = All-cons (IsTree 6) (of x) (map of xs) (each x) (
 all_trees : (sites : List Site) (o : Outcome) → All (IsTree 6) (outcome_json sites o)
 all_trees sites outcomes.Created = one_tree (created_json sites) (created_tree sites)
 all_trees sites (outcomes.Stepped done) = one_tree (effects_json sites done) (effects_tree sites done)
-all_trees sites (outcomes.Ran recalls) = each_tree (ran_json sites) (λ b. (refl, (tt, (tt, tt)))) recalls.items
+all_trees sites (outcomes.Ran recalls coded) = each_tree (ran_json sites) (λ b. (refl, (tt, (tt, tt)))) recalls.items
 all_trees sites (outcomes.Reported r report ways events) = one_tree _ (account_tree sites ways (report_account r report (told_events events)))
 all_trees sites (outcomes.Traced trace ways events) = one_tree _ (account_tree sites ways (trace_account trace (told_events events)))
 all_trees sites (outcomes.TracedBack trace ways events) = one_tree _ (account_tree sites ways (back_account trace (told_events events)))
@@ -196,7 +196,8 @@ all_trees sites (outcomes.Standing recalls coded) = each_tree (status_json sites
 all_trees sites (outcomes.Waiting detail coded) = one_tree (detail_json sites detail) (detail_tree sites detail)
 all_trees sites (outcomes.Known site known) = each_tree (known_json sites site) (λ k. (refl, (tt, (tt, (tt, tt))))) known.items
 all_trees sites (outcomes.WouldStart quarantined messages) = one_tree (would_json quarantined messages) (refl, (tt, (tt, (tt, tt))))
-all_trees sites (outcomes.Audited recalls) = each_tree (audited_json sites) (λ a. verdict_tree sites a.recall a.verdict) recalls.items
+all_trees sites outcomes.Withheld = one_tree withheld_json (refl, (tt, tt))
+all_trees sites (outcomes.Audited recalls coded) = each_tree (audited_json sites) (λ a. verdict_tree sites a.recall a.verdict) recalls.items
 all_trees sites (outcomes.Inconsistent misfit) = one_tree (misfit_json sites misfit) (refl, (tt, (tt, tt)))
 all_trees sites (outcomes.Gaps gaps coded) = one_tree (gaps_json sites gaps) (gaps_tree sites gaps)
 all_trees sites (outcomes.Refused whys) = each_tree (why_json sites) (why_tree sites) whys.items

@@ -1,5 +1,5 @@
 -- What a command came to, as JSON: values whose members are in the order of their names.
-use Rattle.std.specs.Prelude.{ℕ, Bool, List, [], ◌∷◌, ◌++◌, codes, Option, Some, None, map, string_bytes}
+use Rattle.std.specs.Prelude.{ℕ, Bool, true, List, [], ◌∷◌, ◌++◌, codes, Option, Some, None, map, string_bytes}
 use Rattle.std.specs.List.{flat_map}
 use Rattle.event_json.specs.Names.{field_name, kind_name, sites_fault_name}
 use Rattle.event_json.specs.Sites.{Site}
@@ -308,11 +308,15 @@ why_json sites why = object (why_members sites why)
 abbrev pub created_json : List Site → Data
 created_json sites = object (member (codes "created") (list_of (λ s. string s.name) sites) no_members)
 
+-- that sites didn't run
+abbrev pub withheld_json : Data
+withheld_json = object (member (codes "withheld") (boolean true) no_members)
+
 -- a value for each line
 abbrev pub outcome_json : List Site → Outcome → List Data
 outcome_json sites outcomes.Created = created_json sites ∷ []
 outcome_json sites (outcomes.Stepped effects) = effects_json sites effects ∷ []
-outcome_json sites (outcomes.Ran recalls) = map (ran_json sites) recalls.items
+outcome_json sites (outcomes.Ran recalls coded) = map (ran_json sites) recalls.items
 outcome_json sites (outcomes.Reported r report ways events) = account_json sites ways (report_account r report (told_events events)) ∷ []
 outcome_json sites (outcomes.Traced trace ways events) = account_json sites ways (trace_account trace (told_events events)) ∷ []
 outcome_json sites (outcomes.TracedBack trace ways events) = account_json sites ways (back_account trace (told_events events)) ∷ []
@@ -320,7 +324,8 @@ outcome_json sites (outcomes.Standing recalls coded) = map (status_json sites) r
 outcome_json sites (outcomes.Waiting detail coded) = detail_json sites detail ∷ []
 outcome_json sites (outcomes.Known site items) = map (known_json sites site) items.items
 outcome_json sites (outcomes.WouldStart quarantined messages) = would_json quarantined messages ∷ []
-outcome_json sites (outcomes.Audited recalls) = map (audited_json sites) recalls.items
+outcome_json sites outcomes.Withheld = withheld_json ∷ []
+outcome_json sites (outcomes.Audited recalls coded) = map (audited_json sites) recalls.items
 outcome_json sites (outcomes.Inconsistent misfit) = misfit_json sites misfit ∷ []
 outcome_json sites (outcomes.Gaps gaps coded) = gaps_json sites gaps ∷ []
 outcome_json sites (outcomes.Refused whys) = map (why_json sites) whys.items

@@ -78,7 +78,7 @@ ValuesAreRead =
 abbrev pub kind_of : Outcome → ℕ
 kind_of outcomes.Created = 0
 kind_of (outcomes.Stepped done) = 1
-kind_of (outcomes.Ran recalls) = 2
+kind_of (outcomes.Ran recalls coded) = 2
 kind_of (outcomes.Reported r report ways events) = 3
 kind_of (outcomes.Traced trace ways events) = 4
 kind_of (outcomes.TracedBack trace ways events) = 5
@@ -86,10 +86,11 @@ kind_of (outcomes.Standing recalls coded) = 6
 kind_of (outcomes.Waiting detail coded) = 7
 kind_of (outcomes.Known site items) = 8
 kind_of (outcomes.WouldStart quarantined messages) = 9
-kind_of (outcomes.Audited recalls) = 10
+kind_of (outcomes.Audited recalls coded) = 10
 kind_of (outcomes.Inconsistent misfit) = 11
 kind_of (outcomes.Refused whys) = 12
 kind_of (outcomes.Gaps gaps coded) = 13
+kind_of outcomes.Withheld = 14
 
 -- Where there is a value, it tells which outcome it is.
 abbrev pub ValuesTellKinds : Type 0

@@ -26,7 +26,10 @@ pub(crate) fn advice(outcome: &Outcome) -> Option<&'static str> {
                 "note: nothing was begun; this is of the site alone, and `recall trace` tells what a recall would find at all sites\n",
             )
         }
-        Outcome::Audited(recalls) => or_none(
+        Outcome::Withheld => Some(
+            "note: nothing was sent; have those sites capture the packings, and run again, or run without `--unless-gaps`\n",
+        ),
+        Outcome::Audited { recalls, coded: _ } => or_none(
             recalls.is_empty(),
             "note: the records of the sites are consistent, and no recall was begun\n",
         ),

@@ -12,7 +12,7 @@ ghost use Rattle.outcome_forms.specs.Writing.{AppendsText, is_of_writing};
 
 use crate::account_json::{account_head, account_tail, part_json, value_text};
 use crate::gap_json::gaps_json;
-use crate::outcome_json::{created_json, effects_json, misfit_json};
+use crate::outcome_json::{created_json, effects_json, misfit_json, withheld_json};
 use crate::query_json::{detail_json, known_values, would_json};
 use crate::values::values;
 use crate::writing::print;
@@ -35,7 +35,8 @@ pub(crate) fn outcome_values(
     match outcome {
         Outcome::Created => one(alloc, created_json(alloc, sites)?),
         Outcome::Stepped(effects) => one(alloc, effects_json(alloc, sites, effects)?),
-        Outcome::Ran(recalls) => values(alloc, sites, recalls.as_slice()),
+        Outcome::Ran { recalls, coded: _ } => values(alloc, sites, recalls.as_slice()),
+        Outcome::Withheld => one(alloc, withheld_json(alloc)?),
         Outcome::Standing { recalls, coded: _ } => values(alloc, sites, recalls.as_slice()),
         Outcome::Waiting { detail, coded: _ } => one(alloc, detail_json(alloc, sites, detail)?),
         Outcome::Known { site, items } => known_values(alloc, sites, *site, items.as_slice()),
@@ -43,7 +44,7 @@ pub(crate) fn outcome_values(
             quarantined,
             messages,
         } => one(alloc, would_json(alloc, *quarantined, *messages)?),
-        Outcome::Audited(recalls) => values(alloc, sites, recalls.as_slice()),
+        Outcome::Audited { recalls, coded: _ } => values(alloc, sites, recalls.as_slice()),
         Outcome::Inconsistent(misfit) => one(alloc, misfit_json(alloc, sites, *misfit)?),
         Outcome::Gaps { gaps, coded: _ } => one(alloc, gaps_json(alloc, sites, gaps)?),
         Outcome::Refused(whys) => values(alloc, sites, whys.as_slice()),

@@ -6,6 +6,7 @@ use query_core::StuckRecall;
 use recall_outcomes::{Knower, Knowers, Notes, Outcome, RunNotes, Stop, StopCause};
 use recall_text::telling::{name_of, recall_text};
 use report_core::OutsideShipment;
+use site_recovery::Misfit;
 use std::alloc::{AllocError, Global};
 use trace_core::Pair;
 
@@ -30,6 +31,7 @@ pub(crate) fn notes_text(
         Notes::Knowers(knowers) => knowers_text(alloc, sites, knowers),
         Notes::Stuck(stuck) => stuck_text(alloc, sites, stuck.as_slice()),
         Notes::Missed(missed) => missed_text(alloc, sites, missed.as_slice()),
+        Notes::Misfit(misfit) => misfit_text(alloc, sites, *misfit),
     }
 }
 
@@ -72,6 +74,9 @@ fn run_text(alloc: Global, sites: &Sites, run: &RunNotes) -> Result<String, Allo
     let mut text = String::new(alloc);
     for stop in &run.stops {
         push_stop(alloc, &mut text, sites, stop)?;
+    }
+    if !run.missed.is_empty() {
+        text.push_str(missed_text(alloc, sites, run.missed.as_slice())?.as_str())?;
     }
     if run.shared {
         text.push_str("the system gave fewer threads than sites, so sites took turns\n")?;
@@ -136,6 +141,15 @@ fn stuck_text(alloc: Global, sites: &Sites, stuck: &[StuckRecall]) -> Result<Str
     }
     text.push_str(STUCK)?;
     Ok(text)
+}
+
+/// How the records contradict each other.
+fn misfit_text(alloc: Global, sites: &Sites, misfit: Misfit) -> Result<String, AllocError> {
+    let condition = misfit.condition;
+    let name = name_of(sites, misfit.site);
+    format!(in alloc;
+        "note: misfit {condition} {name}: the records contradict each other, so this isn't exact: `recall audit`\n"
+    )
 }
 
 /// How many items are missed at each site, and what can be done.

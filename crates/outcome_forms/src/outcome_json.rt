@@ -3,7 +3,7 @@
 ghost use Rattle.std.specs.Prelude.{◌≡◌, IfOk, map};
 ghost use Rattle.serde_json.specs.Data.{no_members, object, string};
 ghost use Rattle.serde_json.specs.View.{view};
-ghost use Rattle.outcome_forms.specs.Json.{audited_json, blocked_members, captured_members, created_json, differs_json, doc_members, effects_json, input_json, line_members, misfit_json, refused, source_name, started_members, step_members, totals_json, why_json};
+ghost use Rattle.outcome_forms.specs.Json.{audited_json, blocked_members, captured_members, created_json, differs_json, doc_members, effects_json, input_json, line_members, misfit_json, refused, source_name, started_members, step_members, totals_json, why_json, withheld_json};
 
 use crate::values::{ToJson, array};
 use epc_core::Epc;
@@ -197,6 +197,13 @@ pub(crate) fn created_json(alloc: Global, sites: &Sites) -> Result<Value, AllocE
 {
     let names = array(names_json(alloc, sites)?);
     json!(in alloc; {"created": names})
+}
+
+/// That sites didn't run.
+pub(crate) fn withheld_json(alloc: Global) -> Result<Value, AllocError>
+    ensures { IfOk result (λ v. view v ≡ withheld_json) }
+{
+    json!(in alloc; {"withheld": true})
 }
 
 /// The names of the sites, in order.

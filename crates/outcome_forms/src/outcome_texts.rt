@@ -23,7 +23,8 @@ pub(crate) fn outcome_text(
     let mut text = String::new(alloc);
     match outcome {
         Outcome::Stepped(effects) => return effects_text(alloc, sites, "", effects),
-        Outcome::Ran(recalls) => {
+        Outcome::Withheld => text.push_str("withheld\n")?,
+        Outcome::Ran { recalls, coded: _ } => {
             for recall in recalls {
                 push_ran(alloc, &mut text, sites, recall)?;
             }
@@ -49,7 +50,7 @@ pub(crate) fn outcome_text(
             quarantined,
             messages,
         } => return format!(in alloc; "would recall new {quarantined} messages {messages}\n"),
-        Outcome::Audited(recalls) => {
+        Outcome::Audited { recalls, coded: _ } => {
             for audited in recalls {
                 push_audited(alloc, &mut text, sites, audited)?;
             }

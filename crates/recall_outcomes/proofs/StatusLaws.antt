@@ -1,5 +1,5 @@
 -- the law of statuses
-use Rattle.std.proofs.Common.{◌≡◌, ◌⊎◌, inl, inr, ◌↔◌, ℕ, Bool, true, false, not, ◌&&◌, ◌==◌, if◌then◌else◌, List, [], ◌∷◌, length, Contains, Option, Some, None, refl, sym, ap, ◌∙◌, ⊎_elim, arith}
+use Rattle.std.proofs.Common.{◌≡◌, ◌⊎◌, inl, inr, ◌↔◌, ℕ, Bool, true, false, not, ◌&&◌, ◌==◌, if◌then◌else◌, List, [], ◌∷◌, length, Contains, Option, Some, None, refl, sym, ap, subst, ◌∙◌, ⊎_elim, arith}
 use mathlib.Core.Bool.{false≢true}
 use Rattle.std.specs.List.{list_any}
 use Rattle.std.proofs.lemmas.Bool.{ne_eqb}
@@ -10,8 +10,8 @@ use Rattle.query_core.specs.declared.recalls.RecallStatus.{RecallStatus}
 use Rattle.report_core.specs.declared.audits.Verdict.{Verdict}
 use Rattle.report_core.specs.declared.audits.Verdict.TheVariants.{Equal, Differs}
 use Rattle.trace_core.proofs.Members.{contains_here, contains_none, list_any_member, list_any_witness}
-use Rattle.recall_outcomes.specs.Laws.{HasGap, IsAmiss, IsOpen, IsRefused, IsWrong, StatusesTell, StatusesTellOutcomes, TellsOpen}
-use Rattle.recall_outcomes.specs.Statuses.{differs, has_gaps, is_amiss, is_open, outcome_status}
+use Rattle.recall_outcomes.specs.Laws.{HasGap, IsAmiss, IsRefused, IsWrong, StatusesTell, StatusesTellOutcomes, TellsOpen}
+use Rattle.recall_outcomes.specs.Statuses.{differs, has_gaps, is_amiss, is_none, is_open, is_unended, is_unjudged, outcome_status}
 use Rattle.recall_outcomes.specs.declared.outcomes.AuditedRecall.{AuditedRecall}
 use Rattle.recall_outcomes.specs.declared.outcomes.FoundGaps.{FoundGaps}
 use Rattle.recall_outcomes.specs.declared.outcomes.Outcome.{Outcome}
@@ -26,13 +26,6 @@ wrong_of audited (Some (Differs p missing)) e d = (p, missing, e)
 
 amiss_of : (audited : AuditedRecall) → IsWrong audited → is_amiss audited ≡ true
 amiss_of audited (p, missing, e) = ap differs e
-
-open_of : (status : RecallStatus) → is_open status ≡ true → IsOpen status
-open_of status e = not_true status.ended e
-  where
-    not_true : (b : Bool) → not b ≡ true → b ≡ false
-    not_true false e = refl
-    not_true true e = absurd (false≢true e)
 
 -- a list has an element, or none
 empty_has_none : {X : Type 0} (xs : List X) (x : X) → Contains xs x → (length xs == 0) ≡ false
@@ -116,100 +109,99 @@ done o zero no_refusal no_amiss no_open = record {
   no_others = inl zero;
 }
 
+-- a status that is 5 or 0
+five_or_done : (o : Outcome) (test : Bool) → outcome_status o ≡ (if test then 5 else 0) → (IsRefused o → ⊥) → (IsAmiss o → ⊥) → (test ≡ true → TellsOpen o) → (TellsOpen o → test ≡ true) → StatusesTell o
+five_or_done o test is no_refusal no_amiss some found_of = record {
+  refused = (λ e. absurd (no_other 5 1 test (λ e. omega (arith, e)) (λ e. omega (arith, e)) (sym is ∙ e)), λ r. absurd (no_refusal r));
+  amiss = (λ e. absurd (no_other 5 4 test (λ e. omega (arith, e)) (λ e. omega (arith, e)) (sym is ∙ e)), λ a. absurd (no_amiss a));
+  still_open = (λ e. some (of_test 5 test (λ e. omega (arith, e)) (sym is ∙ e)), λ w. is ∙ by_true 5 test (found_of w));
+  no_others = subst IsKnown (sym is) (known_by 5 test five_known);
+}
+
+-- one that is 4, 5 or 0
+of_audit : (o : Outcome) (bad test : Bool) → outcome_status o ≡ (if bad then 4 else (if test then 5 else 0)) → (IsRefused o → ⊥) → (bad ≡ true → IsAmiss o) → (IsAmiss o → bad ≡ true) → (bad ≡ false → test ≡ true → TellsOpen o) → (TellsOpen o → (bad ≡ false) × (test ≡ true)) → StatusesTell o
+of_audit o true test is no_refusal found amiss still open_so = record {
+  refused = (λ e. let no : ⊥ = omega (arith, e, is) in absurd no, λ r. absurd (no_refusal r));
+  amiss = (λ e. found refl, λ a. is);
+  still_open = (λ e. let no : ⊥ = omega (arith, e, is) in absurd no, λ w. absurd (false≢true (sym (open_so w).0)));
+  no_others = inr (inr (inl is));
+}
+of_audit o false test is no_refusal found amiss still open_so =
+    five_or_done o test is no_refusal (λ a. false≢true (amiss a)) (still refl) (λ w. (open_so w).1)
+
+-- what was asked for, and is there
+asked_any : {X : Type 0} (test : X → Bool) (coded : Bool) (xs : List X) → coded && list_any test xs ≡ true → (coded ≡ true) × (x : X) × Contains xs x × (test x ≡ true)
+asked_any test true xs e = let (x, within, found) = list_any_witness test xs e in (refl, x, within, found)
+asked_any test false xs e = absurd (false≢true e)
+
+any_asked : {X : Type 0} (test : X → Bool) (coded : Bool) (xs : List X) (x : X) → coded ≡ true → Contains xs x → test x ≡ true → coded && list_any test xs ≡ true
+any_asked test true xs x asked within found = list_any_member test xs x within found
+any_asked test false xs x asked within found = absurd (false≢true asked)
+
+and_also : (a b : Bool) → a && b ≡ true → (a ≡ true) × (b ≡ true)
+and_also true b e = (refl, e)
+and_also false b e = absurd (false≢true e)
+
+also_and : (a b : Bool) → a ≡ true → b ≡ true → a && b ≡ true
+also_and true b a e = e
+also_and false b a e = absurd (false≢true a)
+
+not_true : (b : Bool) → not b ≡ true → b ≡ false
+not_true false e = refl
+not_true true e = absurd (false≢true e)
+
+unjudged_of : (verdict : Option Verdict) → is_none verdict ≡ true → verdict ≡ None
+unjudged_of None e = refl
+unjudged_of (Some verdict) e = absurd (false≢true e)
+
+none_amiss : (recalls : List AuditedRecall) → list_any is_amiss recalls ≡ false → (audited : AuditedRecall) → Contains recalls audited → IsWrong audited → ⊥
+none_amiss recalls none audited within wrong = false≢true (sym none ∙ list_any_member is_amiss recalls audited within (amiss_of audited wrong))
+
+some_amiss : (recalls : List AuditedRecall) (b : Bool) → list_any is_amiss recalls ≡ b → ((audited : AuditedRecall) → Contains recalls audited → IsWrong audited → ⊥) → b ≡ false
+some_amiss recalls false is none = refl
+some_amiss recalls true is none = let (audited, within, found) = list_any_witness is_amiss recalls is in absurd (none audited within (wrong_of audited audited.verdict refl found))
+
 pub statuses_tell : StatusesTellOutcomes
 statuses_tell outcomes.Created = done outcomes.Created refl (λ no. no) (λ no. no) (λ no. no)
 statuses_tell (outcomes.Stepped effects) = done (outcomes.Stepped effects) refl (λ no. no) (λ no. no) (λ no. no)
-statuses_tell (outcomes.Ran recalls) = done (outcomes.Ran recalls) refl (λ no. no) (λ no. no) (λ no. no)
+statuses_tell (outcomes.Ran recalls coded) =
+    five_or_done (outcomes.Ran recalls coded) (coded && list_any is_unended recalls.items) refl (λ no. no) (λ no. no)
+    (λ e. let (asked, recall, within, found) = asked_any is_unended coded recalls.items e in (asked, recall, within, not_true recall.ended found))
+    (λ (asked, recall, within, is). any_asked is_unended coded recalls.items recall asked within (ap not is))
+statuses_tell outcomes.Withheld = five_or_done outcomes.Withheld true refl (λ no. no) (λ no. no) (λ e. tt) (λ w. refl)
 statuses_tell (outcomes.Reported r report ways events) = done (outcomes.Reported r report ways events) refl (λ no. no) (λ no. no) (λ no. no)
 statuses_tell (outcomes.Traced trace ways events) = done (outcomes.Traced trace ways events) refl (λ no. no) (λ no. no) (λ no. no)
 statuses_tell (outcomes.TracedBack trace ways events) = done (outcomes.TracedBack trace ways events) refl (λ no. no) (λ no. no) (λ no. no)
 statuses_tell (outcomes.Known site items) = done (outcomes.Known site items) refl (λ no. no) (λ no. no) (λ no. no)
 statuses_tell (outcomes.WouldStart quarantined messages) = done (outcomes.WouldStart quarantined messages) refl (λ no. no) (λ no. no) (λ no. no)
-statuses_tell (outcomes.Standing recalls coded) = of_standing coded
-  where
-    test : Bool → Bool
-    test coded = coded && list_any is_open recalls.items
-
-    some : (coded : Bool) → test coded ≡ true → TellsOpen (outcomes.Standing recalls coded)
-    some false e = absurd (false≢true e)
-    some true e =
-        let (status, within, found) = list_any_witness is_open recalls.items e in
-        (refl, status, within, open_of status found)
-
-    found_of : (coded : Bool) → TellsOpen (outcomes.Standing recalls coded) → test coded ≡ true
-    found_of true (e, status, within, is) = list_any_member is_open recalls.items status within (ap not is)
-    found_of false (e, status, within, is) = absurd (false≢true e)
-
-    of_standing : (coded : Bool) → StatusesTell (outcomes.Standing recalls coded)
-    of_standing coded = record {
-      refused = (λ e. absurd (no_other 5 1 (test coded) (λ e. omega (arith, e)) (λ e. omega (arith, e)) e), λ no. absurd no);
-      amiss = (λ e. absurd (no_other 5 4 (test coded) (λ e. omega (arith, e)) (λ e. omega (arith, e)) e), λ no. absurd no);
-      still_open = (λ e. some coded (of_test 5 (test coded) (λ e. omega (arith, e)) e), λ w. by_true 5 (test coded) (found_of coded w));
-      no_others = known_by 5 (test coded) five_known;
-    }
-statuses_tell (outcomes.Waiting detail coded) = of_waiting coded
-  where
-    test : Bool → Bool
-    test coded = coded && is_open detail.status
-
-    some : (coded : Bool) → test coded ≡ true → TellsOpen (outcomes.Waiting detail coded)
-    some false e = absurd (false≢true e)
-    some true e = (refl, open_of detail.status e)
-
-    found_of : (coded : Bool) → TellsOpen (outcomes.Waiting detail coded) → test coded ≡ true
-    found_of true (e, is) = ap not is
-    found_of false (e, rest) = absurd (false≢true e)
-
-    of_waiting : (coded : Bool) → StatusesTell (outcomes.Waiting detail coded)
-    of_waiting coded = record {
-      refused = (λ e. absurd (no_other 5 1 (test coded) (λ e. omega (arith, e)) (λ e. omega (arith, e)) e), λ no. absurd no);
-      amiss = (λ e. absurd (no_other 5 4 (test coded) (λ e. omega (arith, e)) (λ e. omega (arith, e)) e), λ no. absurd no);
-      still_open = (λ e. some coded (of_test 5 (test coded) (λ e. omega (arith, e)) e), λ w. by_true 5 (test coded) (found_of coded w));
-      no_others = known_by 5 (test coded) five_known;
-    }
-statuses_tell (outcomes.Audited recalls) = record {
-  refused = (λ e. absurd (no_other 4 1 test (λ e. omega (arith, e)) (λ e. omega (arith, e)) e), λ no. absurd no);
-  amiss = (λ e. some (of_test 4 test (λ e. omega (arith, e)) e), λ w. by_true 4 test (found_of w));
-  still_open = (λ e. absurd (no_other 4 5 test (λ e. omega (arith, e)) (λ e. omega (arith, e)) e), λ no. absurd no);
-  no_others = known_by 4 test four_known;
-}
-  where
-    test : Bool
-    test = list_any is_amiss recalls.items
-
-    some : test ≡ true → IsAmiss (outcomes.Audited recalls)
-    some e =
-        let (audited, within, found) = list_any_witness is_amiss recalls.items e in
-        (audited, within, wrong_of audited audited.verdict refl found)
-
-    found_of : IsAmiss (outcomes.Audited recalls) → test ≡ true
-    found_of (audited, within, is) = list_any_member is_amiss recalls.items audited within (amiss_of audited is)
+statuses_tell (outcomes.Standing recalls coded) =
+    five_or_done (outcomes.Standing recalls coded) (coded && list_any is_open recalls.items) refl (λ no. no) (λ no. no)
+    (λ e. let (asked, status, within, found) = asked_any is_open coded recalls.items e in (asked, status, within, not_true status.ended found))
+    (λ (asked, status, within, is). any_asked is_open coded recalls.items status asked within (ap not is))
+statuses_tell (outcomes.Waiting detail coded) =
+    five_or_done (outcomes.Waiting detail coded) (coded && is_open detail.status) refl (λ no. no) (λ no. no)
+    (λ e. let (asked, found) = and_also coded (is_open detail.status) e in (asked, not_true detail.status.ended found))
+    (λ (asked, is). also_and coded (is_open detail.status) asked (ap not is))
+statuses_tell (outcomes.Audited recalls coded) =
+    of_audit (outcomes.Audited recalls coded) (list_any is_amiss recalls.items) (coded && list_any is_unjudged recalls.items) refl (λ no. no)
+    (λ e. let (audited, within, found) = list_any_witness is_amiss recalls.items e in (audited, within, wrong_of audited audited.verdict refl found))
+    (λ (audited, within, is). list_any_member is_amiss recalls.items audited within (amiss_of audited is))
+    (λ none e. let (asked, audited, within, found) = asked_any is_unjudged coded recalls.items e in
+    (none_amiss recalls.items none, asked, audited, within, unjudged_of audited.verdict found))
+    (λ (none, asked, audited, within, is). (
+      some_amiss recalls.items (list_any is_amiss recalls.items) refl none,
+      any_asked is_unjudged coded recalls.items audited asked within (ap is_none is),
+    ))
 statuses_tell (outcomes.Inconsistent misfit) = record {
   refused = (λ e. let no : ⊥ = omega (arith, e) in absurd no, λ no. absurd no);
   amiss = (λ e. tt, λ is. refl);
   still_open = (λ e. let no : ⊥ = omega (arith, e) in absurd no, λ no. absurd no);
   no_others = inr (inr (inl refl));
 }
-statuses_tell (outcomes.Gaps gaps coded) = of_gaps coded
-  where
-    test : Bool → Bool
-    test coded = coded && has_gaps gaps
-
-    some : (coded : Bool) → test coded ≡ true → TellsOpen (outcomes.Gaps gaps coded)
-    some false e = absurd (false≢true e)
-    some true e = (refl, gap_of gaps e)
-
-    found_of : (coded : Bool) → TellsOpen (outcomes.Gaps gaps coded) → test coded ≡ true
-    found_of true (e, has) = gaps_of gaps has
-    found_of false (e, has) = absurd (false≢true e)
-
-    of_gaps : (coded : Bool) → StatusesTell (outcomes.Gaps gaps coded)
-    of_gaps coded = record {
-      refused = (λ e. absurd (no_other 5 1 (test coded) (λ e. omega (arith, e)) (λ e. omega (arith, e)) e), λ no. absurd no);
-      amiss = (λ e. absurd (no_other 5 4 (test coded) (λ e. omega (arith, e)) (λ e. omega (arith, e)) e), λ no. absurd no);
-      still_open = (λ e. some coded (of_test 5 (test coded) (λ e. omega (arith, e)) e), λ w. by_true 5 (test coded) (found_of coded w));
-      no_others = known_by 5 (test coded) five_known;
-    }
+statuses_tell (outcomes.Gaps gaps coded) =
+    five_or_done (outcomes.Gaps gaps coded) (coded && has_gaps gaps) refl (λ no. no) (λ no. no)
+    (λ e. let (asked, found) = and_also coded (has_gaps gaps) e in (asked, gap_of gaps found))
+    (λ (asked, has). also_and coded (has_gaps gaps) asked (gaps_of gaps has))
 statuses_tell (outcomes.Refused whys) = record {
   refused = (λ e. tt, λ is. refl);
   amiss = (λ e. let no : ⊥ = omega (arith, e) in absurd no, λ no. absurd no);

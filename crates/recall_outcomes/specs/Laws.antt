@@ -1,5 +1,5 @@
 -- What statuses tell.
-use Rattle.std.specs.Prelude.{◌≡◌, ◌⊎◌, ◌↔◌, ⊤, ℕ, Bool, true, false, Contains, Some}
+use Rattle.std.specs.Prelude.{◌≡◌, ◌⊎◌, ◌↔◌, ⊤, ℕ, Bool, true, false, Contains, Some, None}
 use Rattle.gap_core.specs.declared.lines.GapLine.{GapLine}
 use Rattle.gap_core.specs.declared.unseen.UnseenItem.{UnseenItem}
 use Rattle.query_core.specs.declared.recalls.RecallStatus.{RecallStatus}
@@ -13,6 +13,7 @@ use Rattle.recall_outcomes.specs.declared.batches.Totals.{Totals}
 use Rattle.recall_outcomes.specs.declared.outcomes.AuditedRecall.{AuditedRecall}
 use Rattle.recall_outcomes.specs.declared.outcomes.CommandRefusal.{CommandRefusal}
 use Rattle.recall_outcomes.specs.declared.outcomes.FoundGaps.{FoundGaps}
+use Rattle.recall_outcomes.specs.declared.outcomes.StartedRecall.{StartedRecall}
 use Rattle.recall_outcomes.specs.declared.outcomes.Outcome.{Outcome}
 use Rattle.recall_outcomes.specs.declared.outcomes.Outcome.TheVariants as outcomes
 
@@ -29,7 +30,7 @@ IsWrong audited = (p : Pair) × (missing : Bool) × (audited.verdict ≡ Some (D
 
 -- an audit found a discrepancy: in a recall, or between the records
 abbrev pub IsAmiss : Outcome → Type 0
-IsAmiss (outcomes.Audited recalls) = (audited : AuditedRecall) × Contains recalls.items audited × IsWrong audited
+IsAmiss (outcomes.Audited recalls coded) = (audited : AuditedRecall) × Contains recalls.items audited × IsWrong audited
 IsAmiss (outcomes.Inconsistent misfit) = ⊤
 IsAmiss other = ⊥
 
@@ -41,16 +42,21 @@ IsOpen status = status.ended ≡ false
 abbrev pub HasGap : FoundGaps → Type 0
 HasGap gaps = ((l : GapLine) × Contains gaps.packed.lines l) ⊎ (((l : GapLine) × Contains gaps.used.items l) ⊎ ((u : UnseenItem) × Contains gaps.unseen.items u))
 
--- it was asked for a status that tells of open recalls, or of gaps, and there is one
+-- it was asked for a status that tells of open recalls, or of gaps, and there is one; or that sites don't run where open recalls miss items
 abbrev pub TellsOpen : Outcome → Type 0
 TellsOpen (outcomes.Standing recalls coded) = (coded ≡ true) × (status : RecallStatus) × Contains recalls.items status × IsOpen status
 TellsOpen (outcomes.Waiting detail coded) = (coded ≡ true) × IsOpen detail.status
 TellsOpen (outcomes.Gaps gaps coded) = (coded ≡ true) × HasGap gaps
+TellsOpen (outcomes.Ran recalls coded) = (coded ≡ true) × (recall : StartedRecall) × Contains recalls.items recall × (recall.ended ≡ false)
+TellsOpen (outcomes.Audited recalls coded) =
+    ((audited : AuditedRecall) → Contains recalls.items audited → IsWrong audited → ⊥)
+    × (coded ≡ true) × (audited : AuditedRecall) × Contains recalls.items audited × (audited.verdict ≡ None)
+TellsOpen outcomes.Withheld = ⊤
 TellsOpen other = ⊥
 
 -- ---- the laws
 
--- Each status tells just that: 1 what was refused, 4 a discrepancy, 5 an open recall or a gap where that was asked for. There are no others but
+-- Each status tells just that: 1 what was refused, 4 a discrepancy, 5 an open recall, a gap or a run withheld where that was asked for. There are no others but
 -- 0, which is left for all that went well.
 pub record StatusesTell (o : Outcome) : Type 0 where
   pub refused : (outcome_status o ≡ 1) ↔ IsRefused o

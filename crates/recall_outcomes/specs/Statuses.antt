@@ -1,11 +1,12 @@
 -- The status of a program that ends with what a command came to.
-use Rattle.std.specs.Prelude.{ℕ, Bool, true, false, not, ◌&&◌, ◌==◌, length, Option, Some, None, if◌then◌else◌}
+use Rattle.std.specs.Prelude.{ℕ, Bool, List, true, false, not, ◌&&◌, ◌==◌, length, Option, Some, None, if◌then◌else◌}
 use Rattle.std.specs.List.{list_any}
 use Rattle.query_core.specs.declared.recalls.RecallStatus.{RecallStatus}
 use Rattle.report_core.specs.declared.audits.Verdict.{Verdict}
 use Rattle.report_core.specs.declared.audits.Verdict.TheVariants.{Equal, Differs}
 use Rattle.recall_outcomes.specs.declared.outcomes.AuditedRecall.{AuditedRecall}
 use Rattle.recall_outcomes.specs.declared.outcomes.FoundGaps.{FoundGaps}
+use Rattle.recall_outcomes.specs.declared.outcomes.StartedRecall.{StartedRecall}
 use Rattle.recall_outcomes.specs.declared.outcomes.Outcome.{Outcome}
 use Rattle.recall_outcomes.specs.declared.outcomes.Outcome.TheVariants as outcomes
 
@@ -18,7 +19,18 @@ differs (Some (Differs p missing)) = true
 abbrev pub is_amiss : AuditedRecall → Bool
 is_amiss audited = differs audited.verdict
 
+abbrev pub is_none : Option Verdict → Bool
+is_none None = true
+is_none (Some verdict) = false
+
+-- a recall was open when it was audited
+abbrev pub is_unjudged : AuditedRecall → Bool
+is_unjudged audited = is_none audited.verdict
+
 -- the site that began the recall hasn't recorded its end
+abbrev pub is_unended : StartedRecall → Bool
+is_unended recall = not recall.ended
+
 abbrev pub is_open : RecallStatus → Bool
 is_open status = not status.ended
 
@@ -26,11 +38,16 @@ is_open status = not status.ended
 abbrev pub has_gaps : FoundGaps → Bool
 has_gaps gaps = not ((length gaps.packed.lines == 0 && length gaps.used.items == 0) && length gaps.unseen.items == 0)
 
--- 0 done, 1 refused, 4 a discrepancy; and where it is asked for, 5 while a recall is open, or there are gaps
+-- 4 a discrepancy; and where it is asked for, 5 while a recall is open
+abbrev pub audit_status : List AuditedRecall → Bool → ℕ
+audit_status recalls coded = if list_any is_amiss recalls then 4 else (if coded && list_any is_unjudged recalls then 5 else 0)
+
+-- 0 done, 1 refused, 4 a discrepancy; and where it is asked for, 5 while a recall is open, where there are gaps, or where a run was withheld
 abbrev pub outcome_status : Outcome → ℕ
 outcome_status outcomes.Created = 0
 outcome_status (outcomes.Stepped effects) = 0
-outcome_status (outcomes.Ran recalls) = 0
+outcome_status (outcomes.Ran recalls coded) = if coded && list_any is_unended recalls.items then 5 else 0
+outcome_status outcomes.Withheld = 5
 outcome_status (outcomes.Reported r report ways events) = 0
 outcome_status (outcomes.Traced trace ways events) = 0
 outcome_status (outcomes.TracedBack trace ways events) = 0
@@ -38,7 +55,7 @@ outcome_status (outcomes.Standing recalls coded) = if coded && list_any is_open 
 outcome_status (outcomes.Waiting detail coded) = if coded && is_open detail.status then 5 else 0
 outcome_status (outcomes.Known site items) = 0
 outcome_status (outcomes.WouldStart quarantined messages) = 0
-outcome_status (outcomes.Audited recalls) = if list_any is_amiss recalls.items then 4 else 0
+outcome_status (outcomes.Audited recalls coded) = audit_status recalls.items coded
 outcome_status (outcomes.Inconsistent misfit) = 4
 outcome_status (outcomes.Gaps gaps coded) = if coded && has_gaps gaps then 5 else 0
 outcome_status (outcomes.Refused whys) = 1

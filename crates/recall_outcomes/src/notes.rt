@@ -3,6 +3,7 @@
 use epc_core::Epc;
 use event_json::{SiteNo, Untraced};
 use query_core::StuckRecall;
+use site_recovery::Misfit;
 use trace_core::Pair;
 
 /// What is reported beside an outcome.
@@ -21,6 +22,8 @@ pub enum Notes {
     /// Items that are told, each at the site that sent it on with something that others packed, so that it isn't told where
     /// it went: one at least.
     Missed(Vec<Pair>),
+    /// The records contradict each other so, and what is told isn't exact.
+    Misfit(Misfit),
 }
 
 /// Why a site stopped.
@@ -53,6 +56,9 @@ pub struct RunNotes {
     pub shared: bool,
     /// Whether a recall is open after it.
     pub unended: bool,
+    /// Items that recalls reach which were open before it, each at the site that sent it on with something that others
+    /// packed, so that the recalls don't find where it went.
+    pub missed: Vec<Pair>,
 }
 
 /// What is known of an item that the site that was asked doesn't know.

@@ -2,7 +2,7 @@
 
 ghost use Rattle.std.specs.Prelude.{◌≡◌};
 ghost use Rattle.std.specs.List.{list_any};
-ghost use Rattle.recall_outcomes.specs.Statuses.{has_gaps, is_amiss, is_open, outcome_status};
+ghost use Rattle.recall_outcomes.specs.Statuses.{audit_status, has_gaps, is_amiss, is_open, is_unended, is_unjudged, outcome_status};
 
 use crate::notes::Notes;
 use event_json::{Sequence, SiteNo, Sites};
@@ -58,8 +58,15 @@ pub enum Outcome {
     Created,
     /// A site took a step, with these effects.
     Stepped(Effects),
-    /// The sites ran. These are the recalls that sites have begun, by site and then by number.
-    Ran(Vec<StartedRecall>),
+    /// The sites ran.
+    Ran {
+        /// The recalls that sites have begun, by site and then by number.
+        recalls: Vec<StartedRecall>,
+        /// Whether the program's status tells that one is open.
+        coded: bool,
+    },
+    /// The sites didn't run, and nothing changed: open recalls miss items, and it was asked that they don't run then.
+    Withheld,
     /// A recall is reported.
     Reported {
         recall: RecallId,
@@ -104,8 +111,13 @@ pub enum Outcome {
         quarantined: u64,
         messages: u64,
     },
-    /// The records are consistent, and each recall was audited, by site and then by number.
-    Audited(Vec<AuditedRecall>),
+    /// The records are consistent, and each recall was audited.
+    Audited {
+        /// By site and then by number.
+        recalls: Vec<AuditedRecall>,
+        /// Whether the program's status tells that one is open.
+        coded: bool,
+    },
     /// The records of the sites aren't consistent.
     Inconsistent(Misfit),
     /// The gaps of what the sites captured.
@@ -157,14 +169,21 @@ pub struct Output {
 
 impl Outcome {
     /// The status of a program that ends with it: 0 done, 1 refused, 4 a discrepancy, and where it was asked for, 5 for
-    /// a recall that is open, or for gaps.
+    /// a recall that is open, for gaps, or for a run that was withheld.
     pub fn status(&self) -> u8
         ensures { result ≡ outcome_status self.now }
     {
         match self {
             Outcome::Created => 0,
             Outcome::Stepped(_) => 0,
-            Outcome::Ran(_) => 0,
+            Outcome::Ran { recalls, coded } => {
+                if *coded && some_unended(recalls.as_slice()) {
+                    5
+                } else {
+                    0
+                }
+            }
+            Outcome::Withheld => 5,
             Outcome::Reported {
                 recall: _,
                 report: _,
@@ -200,12 +219,53 @@ impl Outcome {
                 quarantined: _,
                 messages: _,
             } => 0,
-            Outcome::Audited(recalls) => { if some_amiss(recalls.as_slice()) { 4 } else { 0 } }
+            Outcome::Audited { recalls, coded } => audit_status(recalls.as_slice(), *coded),
             Outcome::Inconsistent(_) => 4,
             Outcome::Gaps { gaps, coded } => { if *coded && has_gaps(gaps) { 5 } else { 0 } }
             Outcome::Refused(_) => 1,
         }
     }
+}
+
+/// The status of an audit: 4 a discrepancy, and where it was asked for, 5 for a recall that is open.
+fn audit_status(recalls: &[AuditedRecall], coded: bool) -> u8
+    ensures { result ≡ audit_status recalls.now coded }
+{
+    if some_amiss(recalls) {
+        4
+    } else if coded && some_unjudged(recalls) {
+        5
+    } else {
+        0
+    }
+}
+
+/// Whether some recall was open when it was audited.
+fn some_unjudged(recalls: &[AuditedRecall]) -> bool
+    ensures { result ≡ list_any is_unjudged recalls.now }
+{
+    recalls.iter().any(|recall| is_unjudged(recall))
+}
+
+/// Whether a recall was open when it was audited.
+fn is_unjudged(audited: &AuditedRecall) -> bool
+    ensures { result ≡ is_unjudged audited.now }
+{
+    audited.verdict.is_none()
+}
+
+/// Whether some recall is open after a run.
+fn some_unended(recalls: &[StartedRecall]) -> bool
+    ensures { result ≡ list_any is_unended recalls.now }
+{
+    recalls.iter().any(|recall| is_unended(recall))
+}
+
+/// Whether a recall is open: the site that began it hasn't recorded the end.
+fn is_unended(recall: &StartedRecall) -> bool
+    ensures { result ≡ is_unended recall.now }
+{
+    !recall.ended
 }
 
 /// Whether the quarantine of some recall differs from what its root reaches.

@@ -11,5 +11,5 @@ pub use folders::{
     Files, close_all, file_path, list_path, open_all, open_records, open_site, sites_of,
 };
 pub use questions::{Question, SiteQuestion, ask, ask_site};
-pub use recalls::begun;
+pub use recalls::{begun, open_roots};
 pub use refusals::{no_site, refusal, refusal_of, unspelled};

@@ -71,7 +71,7 @@ pub returns-in_ok-ask-in-Audit-clause-led : goal.returns-in_ok-ask-in-Audit-clau
 returns-in_ok-ask-in-Audit-clause-led g c =
     rw c.in-Audit.is
     (noted_led g.F.Files.does
-    (AsksAll {Q = ⊤} {A = Outcome × Notes} g.K.SiteKeeper.shown g.K.SiteKeeper.stored c.in-Audit.folder.now (λ sites told. ⊥) (λ sites asked. ⊤) (λ asked rs told. AnswersAudit rs told.0 told.1))
+    (AsksAll {Q = ⊤} {A = Outcome × Notes} g.K.SiteKeeper.shown g.K.SiteKeeper.stored c.in-Audit.folder.now (λ sites told. ⊥) (λ sites asked. ⊤) (λ asked rs told. AnswersAudit rs c.in-Audit.coded told.0 told.1))
     c.args.files.now c.ask-in-Audit.new.files c.in_ok-ask-in-Audit.field-0 c.with_notes-in-Audit.result c.with_notes-in-Audit.ensures.sites c.with_notes-in-Audit.ensures.outcome c.with_notes-in-Audit.ensures.notes c.in_ok-ask-in-Audit.ensures.answered)
 
 pub returns-in_ok-ask-in-Trace-clause-led : goal.returns-in_ok-ask-in-Trace-clause-led
@@ -98,10 +98,10 @@ pub returns-in_ok-ask-in-Recall-clause-led : goal.returns-in_ok-ask-in-Recall-cl
 returns-in_ok-ask-in-Recall-clause-led g c =
     let recall = c.in-Recall.recall.now in
     rw c.in-Recall.is
-    (plainly_led g.F.Files.does
-    (AsksAll {Q = Recall} g.K.SiteKeeper.shown g.K.SiteKeeper.stored c.in-Recall.folder.now (λ sites outcome. RefusesRecall recall sites outcome) (λ sites r. AsksRecall recall sites r)
-    (λ r rs outcome. AnswersRecall rs r c.in-Recall.coded outcome))
-    c.args.files.now c.ask-in-Recall.new.files c.in_ok-ask-in-Recall.field-0 c.plain-in-Recall.result c.plain-in-Recall.ensures.sites c.plain-in-Recall.ensures.outcome c.plain-in-Recall.ensures.silent
+    (noted_led g.F.Files.does
+    (AsksAll {Q = Recall} {A = Outcome × Notes} g.K.SiteKeeper.shown g.K.SiteKeeper.stored c.in-Recall.folder.now (λ sites told. RefusesRecall recall sites told.0 × (told.1 ≡ Nothing)) (λ sites r. AsksRecall recall sites r)
+    (λ r rs told. AnswersRecall rs r c.in-Recall.coded told.0 told.1))
+    c.args.files.now c.ask-in-Recall.new.files c.in_ok-ask-in-Recall.field-0 c.with_notes-in-Recall.result c.with_notes-in-Recall.ensures.sites c.with_notes-in-Recall.ensures.outcome c.with_notes-in-Recall.ensures.notes
     c.in_ok-ask-in-Recall.ensures.answered)
 
 pub returns-in_ok-ask_site-in-Items-clause-led : goal.returns-in_ok-ask_site-in-Items-clause-led
@@ -111,7 +111,7 @@ returns-in_ok-ask_site-in-Items-clause-led g c =
     (plainly_led g.F.Files.does
     (AsksSite {Q = ⊤} g.K.SiteKeeper.shown g.K.SiteKeeper.stored c.in-Items.folder.now (λ sites outcome. (named sites name ≡ None) × IsNoSite name outcome) (λ sites site asked. named sites name ≡ Some site)
     (λ asked r outcome. AnswersItems c.in-Items.text.now r outcome))
-    c.args.files.now c.ask_site-in-Items.new.files c.in_ok-ask_site-in-Items.field-0 c.plain-in-Items.result c.plain-in-Items.ensures.sites c.plain-in-Items.ensures.outcome c.plain-in-Items.ensures.silent
+    c.args.files.now c.ask_site-in-Items.new.files c.in_ok-ask_site-in-Items.field-0 c.plain.result c.plain.ensures.sites c.plain.ensures.outcome c.plain.ensures.silent
     c.in_ok-ask_site-in-Items.ensures.answered)
 
 pub returns-in_ok-ask-in-Gaps-clause-led : goal.returns-in_ok-ask-in-Gaps-clause-led

@@ -27,7 +27,7 @@ returns-in-Ok-run_world-clause-answered g c =
     let ran = c.in-Ok-run_world.ensures.ran in
     let counts = c.as_slice-in-Ok-run_world.ensures.value ∙ (c.in-Ok.ensures.failures ∙ ap (map failed) c.as_slice.ensures.value) in
     elim c.match-tell_run.branch [
-      | in-Ok-tell_run w ↦ rw w.ran-is (came_to_its_end shown failed g.K.SiteKeeper.may c.args.turns c.args.keepers.items run.keepers.items c.in-Ok.desks.items run.lists.items _ _ _ ran.began ran.kept c.in-Ok.ensures.limits ran.ends ran.turns ran.run counts w.in-Ok-tell_run.ensures.told w.in-Ok-tell_run.ensures.noted)
+      | in-Ok-tell_run w ↦ rw w.ran-is (refl, came_to_its_end shown failed g.K.SiteKeeper.may c.args.terms c.args.keepers.items run.keepers.items c.in-Ok.desks.items run.lists.items _ _ _ ran.began ran.kept c.in-Ok.ensures.limits ran.ends ran.turns ran.run counts w.in-Ok-tell_run.ensures.told w.in-Ok-tell_run.ensures.noted)
       | in-Err-tell_run w ↦ rw w.ran-is tt
     ]
 
@@ -36,7 +36,7 @@ returns-clause-answered g c =
     let left = c.in-Err.field-0 in
     let why = c.in-Err.ensures.fault.err in
     ok_so c.tell_cause.result
-    (λ r told. misfit_told g.K.SiteKeeper.shown g.K.SiteKeeper.may g.K.SiteKeeper.failed c.args.turns c.args.keepers.items left.keepers.items left.cause r.outcome r.end why.0 why.1 told.0 told.1)
+    (λ r told. misfit_told g.K.SiteKeeper.shown g.K.SiteKeeper.may g.K.SiteKeeper.failed c.args.terms c.args.keepers.items left.keepers.items left.cause r.outcome r.end why.0 why.1 told.0 told.1)
     c.tell_cause.ensures.answered
 
 pub returns-in-Ok-run_world-clause-stored : goal.returns-in-Ok-run_world-clause-stored
@@ -51,12 +51,12 @@ returns-in-Ok-run_world-clause-failed g c =
     let ran = c.in-Ok-run_world.ensures.ran in
     elim c.match-tell_run.branch [
       | in-Ok-tell_run w ↦ rw w.ran-is tt
-      | in-Err-tell_run w ↦ rw w.ran-is (run_untold g.K.SiteKeeper.shown g.K.SiteKeeper.may g.K.SiteKeeper.reopens g.G.Gate.gives_up c.args.turns c.args.keepers.items run.keepers.items run.lists.items ran.fit ran.run)
+      | in-Err-tell_run w ↦ rw w.ran-is (run_untold g.K.SiteKeeper.shown g.K.SiteKeeper.may g.K.SiteKeeper.reopens g.G.Gate.gives_up c.args.terms.turns c.args.keepers.items run.keepers.items run.lists.items ran.fit ran.run)
     ]
 
 pub returns-clause-failed : goal.returns-clause-failed
 returns-clause-failed g c =
     let left = c.in-Err.field-0 in
     let h = c.in-Err.ensures.fault in
-    run_failed_so g.K.SiteKeeper.shown g.K.SiteKeeper.may g.K.SiteKeeper.reopens g.G.Gate.gives_up c.args.turns c.args.keepers.items left.keepers.items left.cause c.tell_cause.result h.err.0 h.err.1 h.why
-    (ran_if_any g.K.SiteKeeper.shown g.K.SiteKeeper.may c.args.turns c.args.keepers.items _ left h.left) c.tell_cause.ensures.failed
+    run_failed_so g.K.SiteKeeper.shown g.K.SiteKeeper.may g.K.SiteKeeper.reopens g.G.Gate.gives_up c.args.terms.turns c.args.keepers.items left.keepers.items left.cause c.tell_cause.result h.err.0 h.err.1 h.why
+    (ran_if_any g.K.SiteKeeper.shown g.K.SiteKeeper.may c.args.terms.turns c.args.keepers.items _ left h.left) c.tell_cause.ensures.failed

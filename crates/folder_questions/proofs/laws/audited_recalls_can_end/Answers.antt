@@ -8,10 +8,10 @@ use Rattle.query_core.proofs.StuckSites.{none_in_vain}
 use Rattle.folder_questions.proofs.laws.audited_recalls_can_end.Goals as goal
 
 pub returns : goal.returns
-returns c = λ world recalls recall root none one sound audited begun numbers.
+returns c = λ world recalls coded told recall root none one sound audited begun numbers.
     let rs = records world in
     let all = all_sites rs one sound in
     every_recall_can_end world recall root
-    (record { places = λ s below. (all s below).place; fits = subst (Fits (world_of rs)) (sym none) audited.0 })
-    (record { one = one; sound = sound; await = none_in_vain rs audited.2 })
+    (record { places = λ s below. (all s below).place; fits = subst (Fits (world_of rs)) (sym none) audited.1 })
+    (record { one = one; sound = sound; await = none_in_vain rs audited.3 })
     begun numbers

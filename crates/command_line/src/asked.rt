@@ -1,0 +1,120 @@
+//! What a command line asks for.
+
+use crate::lint_commands::LintFiles;
+use folder_commands::{RunTerms, WordKind};
+use item_spellings::Spelled;
+use outcome_forms::Form;
+use recall_outcomes::Ways;
+
+/// What a command line asks for.
+#[derive(Debug, Drop)]
+pub(crate) enum Asked<'a> {
+    /// A script from the standard input.
+    Sim,
+    /// Something of the sites' files, on these terms.
+    Files(FileCommand<'a>, Terms),
+    /// Several documents are captured at a site, or several recalls started.
+    Batch(Batch<'a>),
+    /// Documents of files are looked through.
+    Lint(LintFiles<'a>),
+    /// Help, or the version, which is an answer.
+    Help(String),
+    /// A bad command line, with what is wrong with it.
+    Mistake(String),
+}
+
+/// On which terms a command on the sites' files is done.
+#[derive(Clone, Copy, Debug)]
+pub(crate) struct Terms {
+    /// How what it comes to is printed.
+    pub(crate) form: Form,
+    /// For how many seconds it waits for a site's file that another program has open.
+    pub(crate) wait: u64,
+    /// How many bytes a document, or a line of a file of lines, has at most.
+    pub(crate) most: u64,
+}
+
+/// What a site of a folder does one after another: the documents that it captures, or the items whose recall it starts,
+/// of several words, or of the lines or the events of files.
+#[derive(Debug, Drop)]
+pub(crate) struct Batch<'a> {
+    pub(crate) folder: &'a str,
+    pub(crate) site: &'a str,
+    pub(crate) words: Vec<&'a str>,
+    /// What each of the words is.
+    pub(crate) kind: WordKind,
+    pub(crate) terms: Terms,
+}
+
+/// A command on the sites' files in a folder.
+#[derive(Debug, Drop)]
+pub(crate) enum FileCommand<'a> {
+    /// A file is made for each site of a list.
+    Init {
+        folder: &'a str,
+        list: &'a str,
+    },
+    /// The document of one file is captured at a site.
+    Capture {
+        folder: &'a str,
+        site: &'a str,
+        file: &'a str,
+    },
+    /// A recall of an item is started at a site, or it is asked what its start would do.
+    Start {
+        folder: &'a str,
+        site: &'a str,
+        item: Spelled<'a>,
+        dry: bool,
+    },
+    /// All sites run on these terms, for 1 to 1,000,000 turns.
+    Run {
+        folder: &'a str,
+        terms: RunTerms,
+    },
+    /// A recall is reported.
+    Report {
+        folder: &'a str,
+        recall: &'a str,
+        ways: Ways,
+        /// Whether the events behind the steps are told.
+        events: bool,
+    },
+    /// An item at a site is traced to where it went, or back to where it came from.
+    Trace {
+        folder: &'a str,
+        site: &'a str,
+        item: Spelled<'a>,
+        back: bool,
+        ways: Ways,
+        /// Whether the events behind the steps are told.
+        events: bool,
+    },
+    /// It is asked how all recalls stand, and perhaps for a status that tells that one is open.
+    Recalls {
+        folder: &'a str,
+        coded: bool,
+    },
+    /// It is asked how one recall stands.
+    Recall {
+        folder: &'a str,
+        recall: &'a str,
+        coded: bool,
+    },
+    /// A site is asked for the items that it knows, of which the key contains a text.
+    Items {
+        folder: &'a str,
+        site: &'a str,
+        text: &'a str,
+    },
+    /// All sites are audited, and perhaps for a status that tells that a recall is open.
+    Audit {
+        folder: &'a str,
+        coded: bool,
+    },
+    /// It is asked for the gaps of what the sites captured, and perhaps for a status that tells that there are any.
+    Gaps {
+        folder: &'a str,
+        coded: bool,
+    },
+}
