@@ -1,2 +1,3 @@
 mod DryStartLemmas
 mod KnowerLemmas
+mod PackLemmas

@@ -5,6 +5,7 @@ pub mod DryStarts
 pub mod Gaps
 pub mod Knowers
 pub mod Laws
+pub mod Packs
 pub mod Reports
 pub mod SiteItems
 pub mod Standings
