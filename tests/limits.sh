@@ -134,7 +134,23 @@ packed "$at,\"action\":\"ADD\",\"parentID\":\"p\",\"childEPCs\":[$epcs]" 'captur
 packed "$at,\"action\":\"ADD\",\"parentID\":\"p\",\"childEPCs\":[$epcs,\"x\"]" 'refused Doc TooManyEpcs event 1 field childEPCs'
 row "capture B {\"type\":\"EPCISDocument\",\"epcisBody\":{\"eventList\":[$events,$event]}}" 'captured 1000 known 0 skipped 0'
 row "capture B {\"type\":\"EPCISDocument\",\"epcisBody\":{\"eventList\":[$events,$event,5]}}" 'refused Doc TooManyEvents event 0 field eventList'
+# They are counted before any is looked at, and what would be skipped counts, too.
+row "capture B {\"type\":\"EPCISDocument\",\"epcisBody\":{\"eventList\":[$(repeated 1001 '{"type":"TransactionEvent"}')]}}" 'refused Doc TooManyEvents event 0 field eventList'
+seen "$at,\"action\":\"OBSERVE\",\"epcList\":[$(repeated 1001 5)]" 'refused Doc TooManyEpcs event 1 field epcList'
+seen "$at,\"action\":\"OBSERVE\",\"epcList\":[\"x\"],\"destinationList\":[$(repeated 1001 5)]" 'refused Doc TooManyEpcs event 1 field destinationList'
 ends 'how much a document holds'
+
+# A chain of 1,000 transformations of items with a long common beginning.
+
+begins 'site A a' 'site B b'
+item=$(printf 'x%.0s' $(seq 120))
+chain=$(for n in $(seq 1000); do
+    printf '{"type":"TransformationEvent",%s,"inputEPCList":["%s"],"outputEPCList":["%s"]},' "$at" "$item$((n - 1))" "$item$n"
+done)
+row "capture A {\"type\":\"EPCISDocument\",\"epcisBody\":{\"eventList\":[${chain%,}]}}" 'captured 1000 known 0 skipped 0'
+mapfile -t pairs < <(seq 0 1000 | sed "s/^/pair A uri $item/" | sort)
+row "reach A ${item}0" "${pairs[@]}" 'pairs 1001'
+ends 'a long chain'
 
 # Lists of sites.
 

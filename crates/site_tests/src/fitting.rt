@@ -187,10 +187,7 @@ fn is_charged(
     Ok(says(alloc, &sites)? == wanted)
 }
 
-/// A made y of x and shipped it to B.
-const FIRST_RUN: [Given; 2] = [Made("x", "y"), Shipped("y", "b")];
-
-/// Then it began to recall x.
+/// A made y of x, shipped it to B, and began to recall x.
 const BEGUN: [Given; 3] = [Made("x", "y"), Shipped("y", "b"), Recalled("x")];
 
 /// Then B's signal came, and the recall ended.
@@ -200,27 +197,6 @@ const ENDED: [Given; 4] = [
     Recalled("x"),
     Signalled(B),
 ];
-
-#[test]
-fn sites_fit_before_and_after_a_recall(rt: HostRuntime) -> Result<(), Fail> {
-    let keys = RandomState::new(&rt)?;
-    let alloc = rt.alloc();
-    assert!(rt; is_charged(alloc, keys, [&FIRST_RUN, &[], &[]], None)?);
-    assert!(rt; is_charged(alloc, keys, [&BEGUN, &[], &[]], None)?);
-    assert!(rt; is_charged(alloc, keys, [&ENDED, &[Told(A, "y")], &[]], None)?);
-    Ok(())
-}
-
-#[test]
-fn states_of_different_days_do_not_fit(rt: HostRuntime) -> Result<(), Fail> {
-    let keys = RandomState::new(&rt)?;
-    let alloc = rt.alloc();
-    // A knows that the recall has ended, and B was never notified.
-    assert!(rt; is_charged(alloc, keys, [&ENDED, &[], &[]], misfit(2, B))?);
-    // B was notified of a recall that A never began.
-    assert!(rt; is_charged(alloc, keys, [&[], &[Told(A, "y")], &[]], misfit(3, B))?);
-    Ok(())
-}
 
 /// Whether the sites are seen to be out of order, and two of three to be too few.
 fn sees_places(alloc: Global, keys: RandomState) -> Result<bool, Fail> {

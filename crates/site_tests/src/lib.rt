@@ -1,5 +1,5 @@
-//! A site's engagement, steps and rows, worlds of sites, sites that are consistent, and questions of items and of
-//! recalls, by examples.
+//! What no run of the program reaches or shows of a site's engagement, steps and rows, of worlds of sites, of sites that
+//! are consistent, and of questions of recalls, by examples.
 #![tactic(auto)]
 
 #[cfg(test)]

@@ -1,6 +1,4 @@
-//! What questions of items and of recalls are answered with, by the worked recall of two sites.
+//! In which order questions of recalls are answered, while a recall waits on either of two sites.
 
-mod items;
 mod orders;
-mod recalls;
 mod sites;

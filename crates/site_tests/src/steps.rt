@@ -85,14 +85,11 @@ enum Want {
     Done(Effects),
     /// The first event would lead out of the quarantine of A#1, from y.
     Blocked,
-    /// The eventID of the first event is taken.
-    IdTaken,
-    UnknownItem,
     NotMine,
     NumbersSpent,
 }
 
-use Want::{Blocked, Done, IdTaken, NotMine, NumbersSpent, UnknownItem};
+use Want::{Blocked, Done, NotMine, NumbersSpent};
 
 /// Whether the item is y.
 fn is_y(item: &Epc) -> bool {
@@ -113,8 +110,6 @@ fn is_refusal(refusal: &Refusal, want: Want) -> bool {
             },
             Blocked,
         ) => *by == recall() && is_y(item) && *event == 1,
-        (Refusal::IdTaken { event }, IdTaken) => *event == 1,
-        (Refusal::UnknownItem, UnknownItem) => true,
         (Refusal::NotMine, NotMine) => true,
         (Refusal::NumbersSpent, NumbersSpent) => true,
         _ => false,
@@ -201,50 +196,10 @@ fn tells_b(a: &SiteState, y: &Epc) -> bool {
     emittable(a, 1) == Some(told) && emittable(a, 2) == None
 }
 
-#[test]
-fn a_start_tells_where_the_goods_went(rt: HostRuntime) -> Result<(), Fail> {
-    let keys = RandomState::new(&rt)?;
-    let mut a = fresh(rt.alloc(), keys, site(0))?;
-    assert!(rt; recalls(rt.alloc(), &mut a)?);
-    let y = Epc::read(rt.alloc(), "y")?;
-    assert!(rt; tells_b(&a, &y));
-    Ok(())
-}
-
-/// Whether B may send its signal for A.1.
-fn owes_signal(b: &SiteState) -> bool {
-    let due = FrameView::Signal {
-        id: message(1),
-        by: site(1),
-    };
-    emittable(b, 1) == Some(due)
-}
-
-/// What a message returns that brings one item, which went nowhere.
-const TAKEN: Effects = Effects::Received {
-    quarantined: 1,
-    numbered: 0,
-    owed: false,
-};
-
-/// B takes the message once, and may send its signal then.
-fn takes_once(alloc: Global, b: &mut SiteState) -> Result<bool, Fail> {
-    let told = Short::Told(message(1), site(1));
-    let rows = [(told, Done(TAKEN)), (told, Done(Effects::Repeat))];
-    Ok(give(alloc, b, &rows)? && owes_signal(b))
-}
-
-#[test]
-fn a_message_is_taken_once(rt: HostRuntime) -> Result<(), Fail> {
-    let keys = RandomState::new(&rt)?;
-    let mut b = fresh(rt.alloc(), keys, site(1))?;
-    assert!(rt; takes_once(rt.alloc(), &mut b)?);
-    Ok(())
-}
-
-/// The last signal ends the recall in a record of its own, and is stale where it comes again.
-fn ends_apart(alloc: Global, a: &SiteState, last: &SiteInput) -> Result<bool, Fail> {
-    match step(alloc, a, last)? {
+/// The last signal ends the recall in a record of its own.
+fn ends_apart(alloc: Global, a: &SiteState) -> Result<bool, Fail> {
+    let last = input(alloc, Short::Signal(message(1), site(1)))?;
+    match step(alloc, a, &last)? {
         Stepped::Next(next, effects) => Ok(
             effects == Effects::Ended(recall())
                 && next.outbox().is_empty()
@@ -255,50 +210,26 @@ fn ends_apart(alloc: Global, a: &SiteState, last: &SiteInput) -> Result<bool, Fa
 }
 
 /// A signal for a message that was never sent is stale, for which no record is made.
-fn is_stale(alloc: Global, a: &SiteState, unsent: &SiteInput) -> Result<bool, Fail> {
-    Ok(matches!(step(alloc, a, unsent)?, Stepped::Same(Effects::Stale)))
-}
-
-/// Whether both are so at A.
-fn goes_on(alloc: Global, a: &SiteState) -> Result<bool, Fail> {
-    let last = input(alloc, Short::Signal(message(1), site(1)))?;
+fn is_stale(alloc: Global, a: &SiteState) -> Result<bool, Fail> {
     let unsent = input(alloc, Short::Signal(message(2), site(1)))?;
-    Ok(ends_apart(alloc, a, &last)? && is_stale(alloc, a, &unsent)?)
+    Ok(matches!(step(alloc, a, &unsent)?, Stepped::Same(Effects::Stale)))
 }
 
 #[test]
-fn the_last_signal_ends_the_recall(rt: HostRuntime) -> Result<(), Fail> {
+fn a_start_tells_where_the_goods_went_until_it_is_signalled(rt: HostRuntime) -> Result<(), Fail> {
     let keys = RandomState::new(&rt)?;
     let mut a = fresh(rt.alloc(), keys, site(0))?;
     assert!(rt; recalls(rt.alloc(), &mut a)?);
-    assert!(rt; goes_on(rt.alloc(), &a)?);
+    let y = Epc::read(rt.alloc(), "y")?;
+    assert!(rt; tells_b(&a, &y));
+    assert!(rt; is_stale(rt.alloc(), &a)?);
+    assert!(rt; ends_apart(rt.alloc(), &a)?);
     Ok(())
 }
 
-/// B has captured nothing, and knows y since it is quarantined: it may recall it, and has nobody to notify. It
-/// doesn't know x.
-fn recalls_what_is_held(alloc: Global, b: &mut SiteState) -> Result<bool, Fail> {
-    let started = Effects::Started {
-        recall: RecallId {
-            site: site(1),
-            number: 1,
-        },
-        quarantined: 1,
-        numbered: 0,
-        ended: true,
-    };
-    let rows = [
-        (Short::Told(message(1), site(1)), Done(TAKEN)),
-        (Short::Start('y'), Done(started)),
-        (Short::Start('x'), UnknownItem),
-    ];
-    give(alloc, b, &rows)
-}
-
-#[test]
-fn what_is_quarantined_may_be_recalled(rt: HostRuntime) -> Result<(), Fail> {
-    let keys = RandomState::new(&rt)?;
-    let mut b = fresh(rt.alloc(), keys, site(1))?;
-    assert!(rt; recalls_what_is_held(rt.alloc(), &mut b)?);
-    Ok(())
-}
+/// What a message returns that brings one item, which went nowhere.
+const TAKEN: Effects = Effects::Received {
+    quarantined: 1,
+    numbered: 0,
+    owed: false,
+};

@@ -17,9 +17,9 @@ fn is_recall(status: &RecallStatus, site: SiteNo, number: u64) -> bool {
     status.recall == RecallId { site, number }
 }
 
-/// Whether the message is this one.
-fn is_message(waiting: &WaitingMessage, site: SiteNo, number: u64) -> bool {
-    waiting.message == MsgId { site, number }
+/// Whether the message is this one, and counts as told or not.
+fn is_message(waiting: &WaitingMessage, site: SiteNo, number: u64, told: bool) -> bool {
+    waiting.message == MsgId { site, number } && waiting.told == told
 }
 
 /// Whether A's two recalls come before B's first.
@@ -32,11 +32,13 @@ fn are_by_site(statuses: &[RecallStatus]) -> bool {
     }
 }
 
-/// Whether A's two messages come before B's first.
+/// Whether A's two messages, of which B has taken the first, come before B's own.
 fn wait_by_site(waiting: &[WaitingMessage]) -> bool {
     match waiting {
         [one, two, three] => {
-            is_message(one, a(), 1) && is_message(two, a(), 2) && is_message(three, b(), 1)
+            is_message(one, a(), 1, true)
+                && is_message(two, a(), 2, false)
+                && is_message(three, b(), 1, false)
         }
         _ => false,
     }

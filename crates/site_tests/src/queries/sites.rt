@@ -1,16 +1,12 @@
 //! The two sites, what they do, and what is expected of them.
 use crate::numbers::site;
-use epc_core::{Epc, EpcForm};
+use epc_core::Epc;
 use event_json::{Sequence, SiteNo, Sites};
 use frame_core::{Frame, MsgId, RecallId};
 use site_core::{SiteInput, SiteState};
 use std::alloc::Global;
 use std::hash::RandomState;
 use std::test::Fail;
-
-/// A document of two shipments to the address b: of x, and then of x again, with the item xy.
-const DOCUMENT: &str =
-    "{\"type\":\"EPCISDocument\",\"epcisBody\":{\"eventList\":[{\"type\":\"ObjectEvent\",\"eventTime\":\"2024-05-01T08:00:00Z\",\"eventTimeZoneOffset\":\"+00:00\",\"action\":\"OBSERVE\",\"epcList\":[\"x\"],\"destinationList\":[{\"destination\":\"b\"}]},{\"type\":\"ObjectEvent\",\"eventTime\":\"2024-05-02T08:00:00Z\",\"eventTimeZoneOffset\":\"+00:00\",\"action\":\"OBSERVE\",\"epcList\":[\"x\",\"xy\"],\"destinationList\":[{\"destination\":\"b\"}]}]}}";
 
 /// A document of a transformation that takes x in and gives x and y out, and of a shipment of both to the address b.
 const REWORKED: &str =
@@ -39,7 +35,7 @@ pub fn recall() -> RecallId {
 }
 
 /// The message A.1.
-pub fn message() -> MsgId {
+fn message() -> MsgId {
     MsgId {
         site: a(),
         number: 1,
@@ -74,14 +70,6 @@ fn start(alloc: Global, state: &mut SiteState, item: &str) -> Result<(), Fail> {
     take(state, &SiteInput::Start(Epc::read(alloc, item)?))
 }
 
-/// Site A, which captured the document and began a recall of x.
-pub fn recalling(alloc: Global, keys: RandomState) -> Result<SiteState, Fail> {
-    let mut site = fresh(alloc, keys, false)?;
-    capture(alloc, &mut site, DOCUMENT)?;
-    start(alloc, &mut site, "x")?;
-    Ok(site)
-}
-
 /// Site A, which made y of x and shipped both to B, and began a recall of x, with two messages, and one of y.
 pub fn recalling_twice(alloc: Global, keys: RandomState) -> Result<SiteState, Fail> {
     let mut site = fresh(alloc, keys, false)?;
@@ -102,12 +90,12 @@ pub fn recalling_too(alloc: Global, keys: RandomState) -> Result<SiteState, Fail
 }
 
 /// Site B, before it takes a message.
-pub fn untold(alloc: Global, keys: RandomState) -> Result<SiteState, Fail> {
+fn untold(alloc: Global, keys: RandomState) -> Result<SiteState, Fail> {
     fresh(alloc, keys, true)
 }
 
 /// Site B takes the message of A that x is recalled.
-pub fn tell(alloc: Global, state: &mut SiteState) -> Result<(), Fail> {
+fn tell(alloc: Global, state: &mut SiteState) -> Result<(), Fail> {
     let frame = Frame::Recall {
         id: message(),
         dest: b(),
@@ -115,21 +103,4 @@ pub fn tell(alloc: Global, state: &mut SiteState) -> Result<(), Fail> {
         item: Epc::read(alloc, "x")?,
     };
     take(state, &SiteInput::Deliver(frame))
-}
-
-/// Site A takes the signal of B, with which the recall ends.
-pub fn signal(state: &mut SiteState) -> Result<(), Fail> {
-    let frame = Frame::Signal {
-        id: message(),
-        by: b(),
-    };
-    take(state, &SiteInput::Deliver(frame))
-}
-
-/// Whether the item is this opaque one.
-pub fn is_item(item: &Epc, wanted: &str) -> bool {
-    match item.form() {
-        EpcForm::Other(text) => text.as_str() == wanted,
-        _ => false,
-    }
 }
