@@ -4,6 +4,8 @@
 # - trace, forward and back, of each item at each site of small random chains with shipments, pallets and transformations in
 #   parts: the pairs, that each way is a shortest one, origins, what left the traced sites, --brief, and --events: the first
 #   events that relate the pairs of each step; and what of the items is missed;
+# - packs: the events by which sites close packed gaps; and, on a copy, that none is left once they are captured, and that a trace finds
+#   then what it misses before;
 # - gaps: containers that a site shipped on and others packed, what was used without what lies in it, and what nobody saw come;
 # - items, of each site: which there are, how often they are named, and those that contain a text;
 # - status and audit while a recall is open and once it has ended, with --exit-code; a report beside a trace of its root;
@@ -33,6 +35,7 @@ import itertools
 import json
 import os
 import random
+import shutil
 import subprocess
 import sys
 
@@ -210,6 +213,37 @@ def gaps(folder, events):
     same(f"gaps {folder} --json", json.loads(ask("gaps", folder, "--json", "--exit-code", status=5 if found or used or unseen else 0)), wanted)
 
 
+def closing(site, events):
+    """The events by which a site closes its packed gaps, by the names of their documents."""
+    known, found = knowing(events)[site], find_gaps(events)[0]
+    gap = {(parent, child) for where, parent, by in found if where == site for child in found[where, parent, by]}
+    closes = lambda who, e: any((e["parent"], child) in gap and (e["parent"], child, who) in known for child in e["children"])
+    packs = [(who, place, e) for who in SITES for place, e in enumerate(events[who]) if e["kind"] == "pack" and e["action"] == "ADD"]
+    return [f"ni:///{who}-{place}" for who, place, e in packs if closes(who, e)]
+
+
+def packs(folder, events):
+    """The documents of these events; and that no gap is left once they are captured, on a copy, where nothing was refused."""
+    copy = f"{folder}.closed"
+    shutil.copytree(folder, copy)
+    names_in = lambda text: [json.loads(line)["epcisBody"]["eventList"][0]["eventID"] for line in text.splitlines()]
+    same(f"packs {folder}", names_in(ask("packs", folder)), [name for site in SITES for name in closing(site, events)])
+    root = (SITES[0], sorted(set().union(*map(names, events[SITES[0]])))[0])
+    for site in SITES:
+        text = ask("packs", folder, "--site", site)
+        same(f"packs {folder} --site {site}", names_in(text), closing(site, events))
+        same(f"packs {folder} --site {site} --json", ask("packs", folder, "--site", site, "--json"), text)
+        with open(f"{copy}.packs", "w") as file:
+            file.write(text)
+        count = len(text.splitlines())
+        told = ask("capture", copy, site, "--lines", f"{copy}.packs").splitlines()[-1]
+        same(f"capture of packs {site}", told, f"documents {count} captured {count} known 0 skipped 0 refused 0")
+    same(f"packs {copy}", ask("packs", copy), "")
+    same(f"gaps {copy}", ask("gaps", copy).splitlines()[-1].split(" used ")[0], "total packed 0 items 0")
+    _, ways, _ = read_trace(ask("trace", copy, *root, "--brief"))
+    same(f"trace {copy}", {way[0] for way in ways}, set(steps(relate(events, knowing(events))[0], root)))
+
+
 def hold_missed(what, pairs, missed):
     """On the error stream stands how many of the pairs are missed at each site."""
     counts = collections.Counter(site for site, _ in missed & set(pairs))
@@ -217,13 +251,14 @@ def hold_missed(what, pairs, missed):
     same(f"{what}: what is missed", told, [f"missed {counts[site]} at {site}" for site in SITES if counts[site]])
 
 
-def relate(events):
-    """What each pair is related to, and what was shipped out of the traced sites."""
+def relate(events, known=None):
+    """What each pair is related to, and what was shipped out of the traced sites: by the sites' own packings, or by what is known of packings."""
     related, out = collections.defaultdict(set), set()
     for site, own in events.items():
         for event in own:
             if event["kind"] == "ship":
-                for item in set().union(*(inside(own, it) for it in event["items"])):
+                goods = closed(event["items"], edges_of(known[site])) if known else set().union(*(inside(own, it) for it in event["items"]))
+                for item in goods:
                     for place in event["to"]:
                         if place in SITES:
                             if place != site:
@@ -488,6 +523,7 @@ for number in range(int(os.environ["CHAINS"])):
     before = fingerprint(folder)
     trace(folder, events)
     gaps(folder, events)
+    packs(folder, events)
     list_items(folder, events, set())
     same("files after questions", fingerprint(folder), before)
     held = set()

@@ -8,13 +8,16 @@ use Rattle.site_core.specs.Records.{Record}
 use Rattle.recall_outcomes.specs.declared.faults.Fault.{Fault}
 use Rattle.recall_outcomes.specs.declared.outcomes.Output.{Output}
 use Rattle.site_folders.specs.FileCalls.{FileCall, Led}
-use Rattle.command_line.specs.CommandLines.{texts_of, AsksBatch, AsksFiles, AsksLint, IsBad}
-use Rattle.command_line.specs.Ends.{CommandEnds, Ends, Streams, TellsBatch, TellsLint}
+use Rattle.command_line.specs.CommandLines.{texts_of, AsksBatch, AsksFiles, AsksLint, AsksPacks, IsBad, AsksConvert}
+use Rattle.command_line.specs.Ends.{CommandEnds, Ends, Streams, TellsBatch, TellsLint, TellsPacks}
+use Rattle.command_line.specs.Converting.{TellsConvert}
 use Rattle.command_line.specs.Leads.{FailsBy, LeadsTo}
 use Rattle.command_line.specs.declared.asked.Batch.{Batch}
 use Rattle.command_line.specs.declared.asked.FileCommand.{FileCommand}
 use Rattle.command_line.specs.declared.asked.Terms.{Terms}
+use Rattle.command_line.specs.declared.convert_commands.ConvertFiles.{ConvertFiles}
 use Rattle.command_line.specs.declared.lint_commands.LintFiles.{LintFiles}
+use Rattle.command_line.specs.declared.pack_commands.PackFiles.{PackFiles}
 
 module _ {F K G W : Type 0} (does : F → FileCall K → F → Type 0) (waits limits : F → ℕ → F → Type 0) (knows : F → List ℕ → List ℕ → Type 0) (shown : K → Option Record) (failed : K → ℕ) (may : K → Record → Type 0) (reopens : K → Result K (Unopened K) → Type 0) (gives_up : G → ℕ → ℕ → Type 0) (stored : K → Type 0) (contents : W → Option (List ℕ)) where
   pub ends_mistaken : (words : List (String Global)) (old new : F) (before after : Streams W) → IsBad (texts_of words) → new ≡ old
@@ -41,4 +44,16 @@ module _ {F K G W : Type 0} (does : F → FileCall K → F → Type 0) (waits li
       → TellsLint does limits contents files old new before.output after.output status
       → Ends does waits limits knows shown failed may reopens gives_up stored contents words old new before after status
   ends_lint words old new before after status files asked unread ends =
-      inr (inr (inl (inr (record { files = files; asked = asked; unread = unread; ends = ends }))))
+      inr (inr (inl (inr (inl (record { files = files; asked = asked; unread = unread; ends = ends })))))
+
+  pub ends_packs : (words : List (String Global)) (old new : F) (before after : Streams W) (status : ℕ) (files : PackFiles) → AsksPacks (texts_of words) files → Keeps before.input after.input
+      → TellsPacks does waits shown stored contents files old new before.output after.output status
+      → Ends does waits limits knows shown failed may reopens gives_up stored contents words old new before after status
+  ends_packs words old new before after status files asked unread ends =
+      inr (inr (inl (inr (inr (inl (record { files = files; asked = asked; unread = unread; ends = ends }))))))
+
+  pub ends_convert : (words : List (String Global)) (old new : F) (before after : Streams W) (status : ℕ) (files : ConvertFiles) → AsksConvert (texts_of words) files → Keeps before.input after.input
+      → TellsConvert does limits contents files old new before.output after.output status
+      → Ends does waits limits knows shown failed may reopens gives_up stored contents words old new before after status
+  ends_convert words old new before after status files asked unread ends =
+      inr (inr (inl (inr (inr (inr (record { files = files; asked = asked; unread = unread; ends = ends }))))))

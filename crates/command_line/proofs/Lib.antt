@@ -1,9 +1,11 @@
 pub mod Assembly
 pub mod Behind
+pub mod ConvertLemmas
 pub mod Endings
 pub mod Numbers
 pub mod Several
 pub mod Starts
+pub mod Turns
 pub mod Words
 pub mod Acts
 pub mod Lived

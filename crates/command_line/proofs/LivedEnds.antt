@@ -24,13 +24,19 @@ use Rattle.folder_commands.specs.declared.batches.BatchOutput.{BatchOutput}
 use Rattle.folder_commands.specs.declared.lints.LintOutput.{LintOutput}
 use Rattle.folder_commands.proofs.LintLemmas.{each_asks}
 use Rattle.command_line.specs.CommandLines.{words_of}
+use Rattle.command_line.specs.Converting.{ConvertEnds}
 use Rattle.command_line.specs.Ends.{Ends, LintsFiles, Streams, TakesBatch}
 use Rattle.command_line.specs.Leads.{FailsBy, LeadsTo}
+use Rattle.command_line.specs.Packs.{Finds}
 use Rattle.command_line.specs.Lives.{AreActsOfSites, LeadByActs}
 use Rattle.command_line.specs.declared.asked.Batch.{Batch}
 use Rattle.command_line.specs.declared.asked.FileCommand.{FileCommand}
 use Rattle.command_line.specs.declared.asked.FileCommand.TheVariants.{Init, Capture, Start, Run, Report, Audit, Trace, Recalls, Recall as OneRecall, Items, Gaps}
+use Rattle.command_line.specs.declared.convert_commands.ConvertFiles.{ConvertFiles}
 use Rattle.command_line.specs.declared.lint_commands.LintFiles.{LintFiles}
+use Rattle.command_line.specs.declared.pack_commands.PackFiles.{PackFiles}
+use Rattle.folder_questions.specs.declared.packs.PacksAnswer.{PacksAnswer}
+use Rattle.command_line.proofs.ConvertLemmas.{converts_ask, fails_ask}
 use Rattle.command_line.proofs.LivedAnswers.{after_asks, all_told, asks_behind, batch_failed, batch_taken, capture_failed, captured, has_run, refused_or, run_failed, site_told, start_failed, started}
 use Rattle.command_line.proofs.LivedCommands.{acted_unchanged, only_asked}
 
@@ -171,12 +177,26 @@ module _ {F K G W : Type 0} (does : F → FileCall K → F → Type 0) (waits li
   lint_acts files old new before lines (Ok output) looked = led_so does old new (λ calls l. asked_acts shown may opens stored calls (lints_ask shown may opens stored _ _ _ _ before lines output calls l)) looked
   lint_acts files old new before lines (Err fault) looked = led_so does old new (λ calls l. asked_acts shown may opens stored calls l.harmless) looked
 
+  packs_act : (files : PackFiles) (old new : F) (came : Result (List Site × PacksAnswer) Fault) → Finds does shown stored files old new came → Led does old new (AreActsOfSites shown may)
+  packs_act files old new (Ok told) (asked, failed) =
+      led_so does old new (λ calls asks. asked_acts shown may opens stored calls (after_asks shown stored files.folder.now asks (λ ss rest t. refused_or shown stored files.folder.now t.1 (λ u. all_told shown stored files.folder.now u.2)))) asked
+  packs_act files old new (Err fault) (asked, failed) = led_so does old new (λ calls vain. asked_acts shown may opens stored calls vain.harmless) failed
+
+  -- documents that are converted
+  convert_acts : (files : ConvertFiles) (mid new : F) (before after : W) (status : ℕ) → ConvertEnds does contents files mid new before after status → Led does mid new (AreActsOfSites shown may)
+  convert_acts files mid new before after status (inl (refused, led, is)) =
+      led_so does mid new (λ calls l. asked_acts shown may opens stored calls (converts_ask contents files.lots _ before after refused calls l)) led
+  convert_acts files mid new before after status (inr (fault, led, is)) =
+      led_so does mid new (λ calls l. asked_acts shown may opens stored calls (fails_ask contents files.lots _ before after fault calls l)) led
+
   -- however a command line ends
   pub ends_acts : (words : List (String Global)) (old new : F) (before after : Streams W) (status : ℕ) → Ends does waits limits knows shown failed may reopens gives_up stored contents words old new before after status → LeadByActs shown may does old new
   ends_acts words old new before after status (inl runs) = unasked old new runs.2
   ends_acts words old new before after status (inr (inl d)) = (d.mid, files_acts d.command d.mid new d.came d.led d.broke)
   ends_acts words old new before after status (inr (inr (inl (inl d)))) = (d.ends.mid, batch_acts d.batch d.ends.mid new before.output d.ends.lines d.ends.came d.ends.taken)
-  ends_acts words old new before after status (inr (inr (inl (inr d)))) = (d.ends.mid, lint_acts d.files d.ends.mid new before.output d.ends.lines d.ends.came d.ends.looked)
+  ends_acts words old new before after status (inr (inr (inl (inr (inl d))))) = (d.ends.mid, lint_acts d.files d.ends.mid new before.output d.ends.lines d.ends.came d.ends.looked)
+  ends_acts words old new before after status (inr (inr (inl (inr (inr (inl d)))))) = (d.ends.mid, packs_act d.files d.ends.mid new d.ends.came d.ends.answered)
+  ends_acts words old new before after status (inr (inr (inl (inr (inr (inr d)))))) = (d.ends.mid, convert_acts d.files d.ends.mid new before.output after.output status d.ends.ends)
   ends_acts words old new before after status (inr (inr (inr (inl helps)))) = unasked old new helps.1
   ends_acts words old new before after status (inr (inr (inr (inr (inl bad))))) = unasked old new bad.1
   ends_acts words old new before after status (inr (inr (inr (inr (inr lacks))))) = unasked old new lacks.0

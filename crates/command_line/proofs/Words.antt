@@ -1,12 +1,11 @@
 -- what some command lines ask for
 use Rattle.std.proofs.Common.{◌≡◌, ◌↔◌, ℕ, Bool, Bor, true, false, List, [], ◌∷◌, Option, Some, None, Result, Ok, Err, IfNone, IfOk, IfSome, arith, codes, length, map, get_or, refl, sym, ap, ◌∙◌, subst, ⊎_elim, inl, inr, ◌≢◌}
 use mathlib.Core.Bool.{false≢true, true≢false}
-use Rattle.std.specs.Prelude.{IsTrue}
+use Rattle.std.specs.Prelude.{IsTrue, bytes_eq}
 use Rattle.std.specs.Option.{ok_or}
 use Rattle.std.specs.Result.{result_ok}
 use Rattle.std.proofs.lemmas.Option.{same_Some}
 use Rattle.std.proofs.lemmas.Slice.Eq.{bytes_eq-Decides}
-use Rattle.std.specs.Prelude.{bytes_eq}
 use Rattle.std.specs.declared.alloc.AllocError.{AllocError}
 use Rattle.clap.specs.Words.{IsAmong, Row, Text, first_of, is_simple, is_simple_and_free}
 use Rattle.clap.specs.declared.error.ErrorKind.{ErrorKind}
@@ -20,9 +19,11 @@ use Rattle.item_spellings.specs.declared.spellings.Spelling.{Spelling}
 use Rattle.folder_commands.specs.declared.words.WordKind.{WordKind}
 use Rattle.folder_commands.specs.declared.words.WordKind.TheVariants as kinds
 use Rattle.command_line.specs.declared.asked.FileCommand.{FileCommand}
+use Rattle.command_line.specs.declared.convert_commands.ConvertFiles.{ConvertFiles}
 use Rattle.command_line.specs.declared.lint_commands.LintFiles.{LintFiles}
+use Rattle.command_line.specs.declared.pack_commands.PackFiles.{PackFiles}
 use Rattle.command_line.specs.declared.asked.FileCommand.TheVariants.{Init, Capture, Start, Run, Report, Audit, Trace, Recalls, Recall, Items, Gaps}
-use Rattle.command_line.specs.CommandLines.{recall, faults_of, named, AsksBatch, AsksDryBatch, AsksFiles, AsksHelp, AsksLinesAndEvents, AsksLint, AsksNamed, AsksOf, AsksTwo, AsksTwoForms, Contradicts, GivesDocuments, GivesEpcs, GivesFiles, GivesSpelling, GivesWords, IsBad, IsBatch, IsCapture, IsCommand, IsContradiction, IsLintCommand, IsMistake, IsSet, IsShown, IsStart, AsksFor, IsToldAs, IsUnset, epcs_kind, has_many, words_of}
+use Rattle.command_line.specs.CommandLines.{recall, faults_of, named, AsksBatch, AsksDryBatch, AsksFiles, AsksHelp, AsksLinesAndEvents, AsksLint, AsksNamed, AsksOf, AsksPacks, AsksTwo, AsksTwoForms, Contradicts, GivesDocuments, GivesEpcs, GivesFiles, GivesSpelling, GivesWords, IsBad, IsBatch, IsCapture, IsCommand, IsContradiction, IsLintCommand, IsMistake, IsPacksCommand, IsSet, IsShown, IsStart, AsksFor, IsToldAs, IsUnset, epcs_kind, has_many, words_of, AsksConvert, IsConvertCommand}
 use mathlib.Core.Logic.{◌⊎◌}
 
 -- `clap`'s contract says which errors the command gives
@@ -111,6 +112,16 @@ module _ (words : List (List ℕ)) (name : List ℕ) where
       let is : AsksNamed (Some (codes "sim", [])) (asked.Lint files) = subst (λ found. AsksNamed found (asked.Lint files)) (ap named e ∙ sim_named name) asks.1 in
       let bad : ◌≡◌ {A = ℕ} 115 108 = ap (λ (text : List ℕ). get_or text 0 0) is.0 in absurd (omega arith)
 
+  pub sim_is_no_packs : (files : PackFiles) → AsksPacks words files → words ≡ name ∷ codes "sim" ∷ [] → ⊥
+  sim_is_no_packs files asks e =
+      let is : AsksNamed (Some (codes "sim", [])) (asked.Packs files) = subst (λ found. AsksNamed found (asked.Packs files)) (ap named e ∙ sim_named name) asks.1 in
+      let bad : ◌≡◌ {A = ℕ} 115 112 = ap (λ (text : List ℕ). get_or text 0 0) is.0 in absurd (omega arith)
+
+  pub sim_is_no_convert : (files : ConvertFiles) → AsksConvert words files → words ≡ name ∷ codes "sim" ∷ [] → ⊥
+  sim_is_no_convert files asks e =
+      let is : AsksNamed (Some (codes "sim", [])) (asked.Convert files) = subst (λ found. AsksNamed found (asked.Convert files)) (ap named e ∙ sim_named name) asks.1 in
+      let bad : ◌≡◌ {A = ℕ} 115 99 = ap (λ (text : List ℕ). get_or text 0 0) is.0 in absurd (omega arith)
+
 memory_is_not_shown : IsShown OutOfMemory → ⊥
 memory_is_not_shown (inl help) = let bad : OutOfMemory ≡ DisplayHelp = help in let no : true ≡ false = cc in absurd (true≢false no)
 memory_is_not_shown (inr version) = let bad : OutOfMemory ≡ DisplayVersion = version in let no : true ≡ false = cc in absurd (true≢false no)
@@ -121,6 +132,8 @@ asks_told words kind asked.Sim has told = absurd told
 asks_told words kind (asked.Files command terms) has told = absurd told
 asks_told words kind (asked.Batch batch) has told = absurd told
 asks_told words kind (asked.Lint files) has told = absurd told
+asks_told words kind (asked.Packs files) has told = absurd told
+asks_told words kind (asked.Convert files) has told = absurd told
 asks_told words kind (asked.Help text) has told =
     ⊎_elim (λ memory. absurd (memory_is_not_shown (subst IsShown memory told))) (λ among. (kind, told, among)) has
 asks_told words kind (asked.Mistake text) has told = ⊎_elim (λ memory. absurd (told.1 memory)) (λ among. inl (kind, among, told.0)) has
@@ -131,6 +144,8 @@ asks_named words asked.Sim none is = (none, is)
 asks_named words (asked.Files command terms) none is = (none, is)
 asks_named words (asked.Batch batch) none is = (none, is)
 asks_named words (asked.Lint files) none is = (none, is)
+asks_named words (asked.Packs files) none is = (none, is)
+asks_named words (asked.Convert files) none is = (none, is)
 asks_named words (asked.Help text) none is = absurd (no_help (named words) is)
   where
     no_help : (found : Option (Text × List Row)) → AsksNamed found (asked.Help text) → ⊥
@@ -155,6 +170,8 @@ capture_named name rows (Some asked.Sim) e is = absurd is
 capture_named name rows (Some (asked.Files command terms)) e is = (subst (λ (n : Text). IsCommand command n rows) (sym e) is.0, is.1)
 capture_named name rows (Some (asked.Batch batch)) e is = subst (λ (n : Text). IsBatch batch n rows) (sym e) is
 capture_named name rows (Some (asked.Lint files)) e is = absurd is
+capture_named name rows (Some (asked.Packs files)) e is = absurd is
+capture_named name rows (Some (asked.Convert files)) e is = absurd is
 capture_named name rows (Some (asked.Help text)) e is = absurd is
 capture_named name rows (Some (asked.Mistake text)) e is = inr (inl (e, is))
 
@@ -165,6 +182,8 @@ start_named name rows (Some asked.Sim) e is = absurd is
 start_named name rows (Some (asked.Files command terms)) e is = (subst (λ (n : Text). IsCommand command n rows) (sym e) is.0, is.1)
 start_named name rows (Some (asked.Batch batch)) e is = subst (λ (n : Text). IsBatch batch n rows) (sym e) is
 start_named name rows (Some (asked.Lint files)) e is = absurd is
+start_named name rows (Some (asked.Packs files)) e is = absurd is
+start_named name rows (Some (asked.Convert files)) e is = absurd is
 start_named name rows (Some (asked.Help text)) e is = absurd is
 start_named name rows (Some (asked.Mistake text)) e is = inr (inr (e, is))
 
@@ -175,8 +194,34 @@ lint_named name rows (Some asked.Sim) e is = absurd is
 lint_named name rows (Some (asked.Files command terms)) e is = absurd is
 lint_named name rows (Some (asked.Batch batch)) e is = absurd is
 lint_named name rows (Some (asked.Lint files)) e is = (e, is)
+lint_named name rows (Some (asked.Packs files)) e is = absurd is
+lint_named name rows (Some (asked.Convert files)) e is = absurd is
 lint_named name rows (Some (asked.Help text)) e is = absurd is
 lint_named name rows (Some (asked.Mistake text)) e is = absurd is
+
+-- what `packs` asks for is asked for by that name
+pub packs_named : (name : Text) (rows : List Row) (result : Option Asked) → name ≡ codes "packs" → IfSome result (IsPacksCommand rows) → IfSome result (AsksOf name rows)
+packs_named name rows None e is = tt
+packs_named name rows (Some asked.Sim) e is = absurd is
+packs_named name rows (Some (asked.Files command terms)) e is = absurd is
+packs_named name rows (Some (asked.Batch batch)) e is = absurd is
+packs_named name rows (Some (asked.Lint files)) e is = absurd is
+packs_named name rows (Some (asked.Packs files)) e is = (e, is)
+packs_named name rows (Some (asked.Convert files)) e is = absurd is
+packs_named name rows (Some (asked.Help text)) e is = absurd is
+packs_named name rows (Some (asked.Mistake text)) e is = absurd is
+
+-- and what `convert` asks for, by its name
+pub convert_named : (name : Text) (rows : List Row) (result : Option Asked) → name ≡ codes "convert" → IfSome result (IsConvertCommand rows) → IfSome result (AsksOf name rows)
+convert_named name rows None e is = tt
+convert_named name rows (Some asked.Sim) e is = absurd is
+convert_named name rows (Some (asked.Files command terms)) e is = absurd is
+convert_named name rows (Some (asked.Batch batch)) e is = absurd is
+convert_named name rows (Some (asked.Lint files)) e is = absurd is
+convert_named name rows (Some (asked.Packs files)) e is = absurd is
+convert_named name rows (Some (asked.Convert files)) e is = (e, is)
+convert_named name rows (Some (asked.Help text)) e is = absurd is
+convert_named name rows (Some (asked.Mistake text)) e is = absurd is
 
 -- what a name and its rows ask for is asked for where they are what was found
 pub found_named : (found : Option (Text × List Row)) (name : Text) (rows : List Row) (result : Option Asked) → found ≡ Some (name, rows) → IfSome result (AsksOf name rows) → IfSome result (AsksNamed found)
@@ -195,6 +240,8 @@ mistake_named found (Some asked.Sim) two is = absurd is
 mistake_named found (Some (asked.Files command terms)) two is = absurd is
 mistake_named found (Some (asked.Batch batch)) two is = absurd is
 mistake_named found (Some (asked.Lint files)) two is = absurd is
+mistake_named found (Some (asked.Packs files)) two is = absurd is
+mistake_named found (Some (asked.Convert files)) two is = absurd is
 mistake_named found (Some (asked.Help text)) two is = absurd is
 mistake_named None (Some (asked.Mistake text)) two is = two
 mistake_named (Some entry) (Some (asked.Mistake text)) two is = two
@@ -264,6 +311,8 @@ mistake_there rows (Ok asked.Sim) told is mistakes dry = absurd mistakes
 mistake_there rows (Ok (asked.Files command terms)) told is mistakes dry = absurd mistakes
 mistake_there rows (Ok (asked.Batch batch)) told is mistakes dry = absurd mistakes
 mistake_there rows (Ok (asked.Lint files)) told is mistakes dry = absurd mistakes
+mistake_there rows (Ok (asked.Packs files)) told is mistakes dry = absurd mistakes
+mistake_there rows (Ok (asked.Convert files)) told is mistakes dry = absurd mistakes
 mistake_there rows (Ok (asked.Help text)) told is mistakes dry = absurd mistakes
 mistake_there rows (Ok (asked.Mistake text)) told is mistakes dry = subst (λ o. IfSome o (IsStart rows)) (sym is) dry
 
@@ -275,6 +324,8 @@ lines_and_events rows (Ok asked.Sim) told is mistakes both = absurd mistakes
 lines_and_events rows (Ok (asked.Files command terms)) told is mistakes both = absurd mistakes
 lines_and_events rows (Ok (asked.Batch batch)) told is mistakes both = absurd mistakes
 lines_and_events rows (Ok (asked.Lint files)) told is mistakes both = absurd mistakes
+lines_and_events rows (Ok (asked.Packs files)) told is mistakes both = absurd mistakes
+lines_and_events rows (Ok (asked.Convert files)) told is mistakes both = absurd mistakes
 lines_and_events rows (Ok (asked.Help text)) told is mistakes both = absurd mistakes
 lines_and_events rows (Ok (asked.Mistake text)) told is mistakes both = subst (λ o. IfSome o (IsCapture rows)) (sym is) both
 

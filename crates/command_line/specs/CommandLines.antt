@@ -23,7 +23,9 @@ use Rattle.command_line.specs.declared.asked.Asked.TheVariants as asked
 use Rattle.command_line.specs.declared.asked.Batch.{Batch}
 use Rattle.command_line.specs.declared.asked.FileCommand.{FileCommand}
 use Rattle.command_line.specs.declared.asked.Terms.{Terms}
+use Rattle.command_line.specs.declared.convert_commands.ConvertFiles.{ConvertFiles}
 use Rattle.command_line.specs.declared.lint_commands.LintFiles.{LintFiles}
+use Rattle.command_line.specs.declared.pack_commands.PackFiles.{PackFiles}
 use Rattle.command_line.specs.declared.asked.FileCommand.TheVariants.{Init, Capture, Start, Run, Report, Audit, Trace, Recalls, Recall, Items, Gaps}
 
 -- the words of a batch
@@ -163,9 +165,17 @@ items = with_rule (with_rule (on_folder (codes "items")) (required (codes "site"
 abbrev pub capturing : Rule
 capturing = record (new_rule (codes "site")) { long = Some (codes "site"); value_names = 1 }
 
+-- of all sites, or of the one that is named
+abbrev pub packs : App
+packs = with_rule (on_folder (codes "packs")) capturing
+
 -- it needs no folder, but a list of sites
 abbrev pub lint : App
 lint = with_rule (with_rule (with_rule (with_rule (with_rule (new_app (codes "lint")) (required (codes "sites"))) files) (flag (codes "json"))) capturing) max_bytes
+
+-- it needs neither
+abbrev pub convert : App
+convert = with_rule (with_rule (with_rule (with_rule (new_app (codes "convert")) files) (flag (codes "json"))) (flag (codes "lots"))) max_bytes
 
 -- `recall` itself, which has to have one of them
 abbrev pub needing : App → App
@@ -179,7 +189,7 @@ abbrev pub versioned : App → App
 versioned a = record a { top = record a.top { has_version = true } }
 
 abbrev pub recall : App
-recall = with_command (with_command (with_command (with_command (with_command changing trace) status) items) lint) gaps where
+recall = with_command (with_command (with_command (with_command (with_command (with_command (with_command changing trace) status) items) lint) gaps) packs) convert where
   -- those that came first
   changing : App
   changing =
@@ -347,10 +357,33 @@ pub record IsLint (asked : LintFiles) (rows : List Row) : Type 0 where
   pub most : GivesMost rows asked.most
   pub form : GivesForm rows asked.form
 
+-- the events by which the sites of a folder, or the one that is named, close their packed gaps
+pub record IsPacks (asked : PackFiles) (rows : List Row) : Type 0 where
+  pub folder : Gives rows (codes "dir") asked.folder.now
+  pub site : option_map (λ t. t.now) asked.site ≡ first_of (codes "site") rows
+  pub terms : GivesTerms rows asked.terms
+
+-- what `packs` with these arguments asks for
+abbrev pub IsPacksCommand : List Row → Asked → Type 0
+IsPacksCommand rows (asked.Packs files) = IsPacks files rows
+IsPacksCommand rows other = ⊥
+
 -- what `lint` with these arguments asks for
 abbrev pub IsLintCommand : List Row → Asked → Type 0
 IsLintCommand rows (asked.Lint files) = IsLint files rows
 IsLintCommand rows other = ⊥
+
+-- documents of files are converted
+pub record IsConvert (asked : ConvertFiles) (rows : List Row) : Type 0 where
+  pub files : all_of (codes "file") rows ≡ Some (map (λ path. path.now) asked.paths.items)
+  pub lots : IsTrue asked.lots ↔ IsSet rows (codes "lots")
+  pub most : GivesMost rows asked.most
+  pub form : GivesForm rows asked.form
+
+-- what `convert` with these arguments asks for
+abbrev pub IsConvertCommand : List Row → Asked → Type 0
+IsConvertCommand rows (asked.Convert files) = IsConvert files rows
+IsConvertCommand rows other = ⊥
 
 -- what `capture` with these arguments asks for
 abbrev pub IsCapture : List Row → Asked → Type 0
@@ -386,6 +419,8 @@ AsksOf name rows asked.Sim = name ≡ codes "sim"
 AsksOf name rows (asked.Files command terms) = IsCommand command name rows × GivesTerms rows terms
 AsksOf name rows (asked.Batch batch) = IsBatch batch name rows
 AsksOf name rows (asked.Lint files) = (name ≡ codes "lint") × IsLint files rows
+AsksOf name rows (asked.Packs files) = (name ≡ codes "packs") × IsPacks files rows
+AsksOf name rows (asked.Convert files) = (name ≡ codes "convert") × IsConvert files rows
 AsksOf name rows (asked.Mistake text) = Contradicts name rows
 AsksOf name rows (asked.Help text) = ⊥
 
@@ -410,6 +445,14 @@ AsksBatch words batch = (faults_of words ≡ []) × AsksNamed (named words) (ask
 abbrev pub AsksLint : List (List ℕ) → LintFiles → Type 0
 AsksLint words files = (faults_of words ≡ []) × AsksNamed (named words) (asked.Lint files)
 
+-- or the events by which gaps are closed are asked for
+abbrev pub AsksPacks : List (List ℕ) → PackFiles → Type 0
+AsksPacks words files = (faults_of words ≡ []) × AsksNamed (named words) (asked.Packs files)
+
+-- or to be converted
+abbrev pub AsksConvert : List (List ℕ) → ConvertFiles → Type 0
+AsksConvert words files = (faults_of words ≡ []) × AsksNamed (named words) (asked.Convert files)
+
 abbrev pub AsksHelp : List (List ℕ) → Type 0
 AsksHelp words = (kind : ErrorKind) × IsShown kind × IsAmong kind (faults_of words)
 
@@ -432,6 +475,8 @@ AsksFor words asked.Sim = AsksSim words
 AsksFor words (asked.Files command terms) = AsksFiles words command terms
 AsksFor words (asked.Batch batch) = AsksBatch words batch
 AsksFor words (asked.Lint files) = AsksLint words files
+AsksFor words (asked.Packs files) = AsksPacks words files
+AsksFor words (asked.Convert files) = AsksConvert words files
 AsksFor words (asked.Help text) = AsksHelp words
 AsksFor words (asked.Mistake text) = IsBad words
 
@@ -441,5 +486,7 @@ IsToldAs kind asked.Sim = ⊥
 IsToldAs kind (asked.Files command terms) = ⊥
 IsToldAs kind (asked.Batch batch) = ⊥
 IsToldAs kind (asked.Lint asked_for) = ⊥
+IsToldAs kind (asked.Packs asked_for) = ⊥
+IsToldAs kind (asked.Convert asked_for) = ⊥
 IsToldAs kind (asked.Help text) = IsShown kind
 IsToldAs kind (asked.Mistake text) = (¬ IsShown kind) × (kind ≢ OutOfMemory)

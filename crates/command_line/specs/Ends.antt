@@ -3,7 +3,7 @@
 use Rattle.std.specs.Prelude.{◌≡◌, ◌⊎◌, ◌==◌, ℕ, List, [], ◌∷◌, Option, Result, Ok, Err, IfErr, IfOk, IfSome, codes, map, option_map, if◌then◌else◌}
 use Rattle.std.specs.Global.{Global}
 use Rattle.std.specs.declared.string.String.{String}
-use Rattle.std.specs.Io.KnownBytes.{Keeps}
+use Rattle.std.specs.Io.KnownBytes.{Appends, Keeps}
 use Rattle.keeper_core.specs.declared.faults.Unopened.{Unopened}
 use Rattle.script_core.specs.Runs.{IsDone, Leaves}
 use Rattle.script_core.specs.declared.tallies.Tally.{Tally}
@@ -12,6 +12,8 @@ use Rattle.site_core.specs.Records.{Record}
 use Rattle.document_lint.specs.Lines.{json_line as lint_line, lint_json, totals_json as lint_totals, totals_status as lint_status}
 use Rattle.document_lint.specs.declared.findings.Lint.{Lint}
 use Rattle.event_json.specs.Sites.{Site}
+use Rattle.folder_questions.specs.declared.packs.PacksAnswer.{PacksAnswer}
+use Rattle.folder_questions.specs.declared.packs.PacksAnswer.TheVariants as packs
 use Rattle.recall_outcomes.specs.Batches.{totals_status}
 use Rattle.recall_outcomes.specs.Statuses.{outcome_status}
 use Rattle.recall_outcomes.specs.declared.batches.InputOutcome.{InputOutcome}
@@ -32,12 +34,16 @@ use Rattle.folder_commands.specs.declared.lints.LintOutput.{LintOutput}
 use Rattle.outcome_forms.specs.Json.{input_json, json_line, totals_json}
 use Rattle.outcome_forms.specs.Writing.{Writes, WritesLines}
 use Rattle.outcome_forms.specs.declared.forms.Form.{Form}
-use Rattle.command_line.specs.CommandLines.{AsksBatch, AsksFiles, AsksHelp, AsksLint, AsksSim, IsBad, texts_of, words_of}
+use Rattle.command_line.specs.CommandLines.{AsksBatch, AsksFiles, AsksHelp, AsksLint, AsksPacks, AsksSim, IsBad, texts_of, words_of, AsksConvert}
+use Rattle.command_line.specs.Converting.{TellsConvert}
 use Rattle.command_line.specs.Leads.{FailsBy, LeadsTo}
 use Rattle.command_line.specs.declared.asked.Batch.{Batch}
 use Rattle.command_line.specs.declared.asked.FileCommand.{FileCommand}
 use Rattle.command_line.specs.declared.asked.Terms.{Terms}
+use Rattle.command_line.specs.Packs.{Finds, document_lines}
+use Rattle.command_line.specs.declared.convert_commands.ConvertFiles.{ConvertFiles}
 use Rattle.command_line.specs.declared.lint_commands.LintFiles.{LintFiles}
+use Rattle.command_line.specs.declared.pack_commands.PackFiles.{PackFiles}
 
 -- an input by what it still has, where it reports it, and an output
 pub record Streams (W : Type 0) : Type 0 where
@@ -100,6 +106,13 @@ abbrev pub LintEnds : Form → List Site → LintCame → Option (List ℕ) → 
 LintEnds form sites (lints.Refused outcome) before after status = OutcomeEnds form sites outcome before after status
 LintEnds form sites (lints.Looked totals) before after status =
     (WritesLines form (lint_line (lint_totals totals)) before after × (status ≡ lint_status totals)) ⊎ (status ≡ 3)
+
+-- ---- the events by which sites close their packed gaps
+
+-- the documents were written, or writing failed; or the site is refused
+abbrev pub PacksEnd : Form → List Site → PacksAnswer → Option (List ℕ) → Option (List ℕ) → ℕ → Type 0
+PacksEnd form sites (packs.NoSite outcome) before after status = OutcomeEnds form sites outcome before after status
+PacksEnd form sites (packs.Found documents) before after status = (Appends before after (document_lines documents.items) × (status ≡ 0)) ⊎ (status ≡ 3)
 
 -- ---- without a call of the files
 
@@ -168,6 +181,16 @@ module _ {F K W : Type 0} (does : F → FileCall K → F → Type 0) (limits : F
     pub ends : IfOk came (λ output. LintEnds asked.form output.sites output.came (contents lines) (contents after) status)
     pub fails : IfErr came (λ fault. (after ≡ lines) × (status ≡ 3))
 
+module _ {F K W : Type 0} (does : F → FileCall K → F → Type 0) (waits : F → ℕ → F → Type 0) (shown : K → Option Record) (stored : K → Type 0) (contents : W → Option (List ℕ)) where
+  -- and that was written, or the fault was reported
+  pub record TellsPacks (asked : PackFiles) (old new : F) (before after : W) (status : ℕ) : Type 0 where
+    pub mid : F
+    pub waited : waits old asked.terms.wait mid
+    pub came : Result (List Site × PacksAnswer) Fault
+    pub answered : Finds does shown stored asked mid new came
+    pub ends : IfOk came (λ told. PacksEnd asked.terms.form told.0 told.1 (contents before) (contents after) status)
+    pub fails : IfErr came (λ fault. (after ≡ before) × (status ≡ 3))
+
 module _ {F K G W : Type 0} (does : F → FileCall K → F → Type 0) (waits limits : F → ℕ → F → Type 0) (knows : F → List ℕ → List ℕ → Type 0) (shown : K → Option Record) (failed : K → ℕ) (may : K → Record → Type 0) (reopens : K → Result K (Unopened K) → Type 0) (gives_up : G → ℕ → ℕ → Type 0) (stored : K → Type 0) (contents : W → Option (List ℕ)) where
   -- A command on files was asked for, and what it came to was written in the form that was asked for: an output, which is that of
   -- these calls of the files; or a fault, which is. Files that are in use were waited for as long as
@@ -193,6 +216,13 @@ module _ {F K G W : Type 0} (does : F → FileCall K → F → Type 0) (waits li
     pub unread : Keeps before.input after.input
     pub ends : TellsBatch does waits limits shown may stored contents batch old new before.output after.output status
 
+  -- it was asked for the events by which sites close their gaps
+  pub record DoesPacks (words : List (List ℕ)) (old new : F) (before after : Streams W) (status : ℕ) : Type 0 where
+    pub files : PackFiles
+    pub asked : AsksPacks words files
+    pub unread : Keeps before.input after.input
+    pub ends : TellsPacks does waits shown stored contents files old new before.output after.output status
+
   -- documents were asked to be looked through
   pub record DoesLint (words : List (List ℕ)) (old new : F) (before after : Streams W) (status : ℕ) : Type 0 where
     pub files : LintFiles
@@ -200,11 +230,20 @@ module _ {F K G W : Type 0} (does : F → FileCall K → F → Type 0) (waits li
     pub unread : Keeps before.input after.input
     pub ends : TellsLint does limits contents files old new before.output after.output status
 
+  -- documents were asked to be converted
+  pub record DoesConvert (words : List (List ℕ)) (old new : F) (before after : Streams W) (status : ℕ) : Type 0 where
+    pub files : ConvertFiles
+    pub asked : AsksConvert words files
+    pub unread : Keeps before.input after.input
+    pub ends : TellsConvert does limits contents files old new before.output after.output status
+
   -- how a command line ends, from old files to new ones
   abbrev pub Ends : List (String Global) → F → F → Streams W → Streams W → ℕ → Type 0
   Ends words old new before after status =
       RunsAsked contents old new before after status (texts_of words)
       ⊎ (DoesFiles (texts_of words) old new before after status
-      ⊎ ((DoesBatch (texts_of words) old new before after status ⊎ DoesLint (texts_of words) old new before after status)
+      ⊎ ((DoesBatch (texts_of words) old new before after status
+      ⊎ (DoesLint (texts_of words) old new before after status
+      ⊎ (DoesPacks (texts_of words) old new before after status ⊎ DoesConvert (texts_of words) old new before after status)))
       ⊎ (Helps contents old new before after status (texts_of words)
       ⊎ (IsMistaken contents old new before after status (texts_of words) ⊎ LacksMemory contents old new before after status))))

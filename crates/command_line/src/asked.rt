@@ -1,6 +1,8 @@
 //! What a command line asks for.
 
+use crate::convert_commands::ConvertFiles;
 use crate::lint_commands::LintFiles;
+use crate::pack_commands::PackFiles;
 use folder_commands::{RunTerms, WordKind};
 use item_spellings::Spelled;
 use outcome_forms::Form;
@@ -17,6 +19,10 @@ pub(crate) enum Asked<'a> {
     Batch(Batch<'a>),
     /// Documents of files are looked through.
     Lint(LintFiles<'a>),
+    /// It is asked for the events by which sites close their packed gaps.
+    Packs(PackFiles<'a>),
+    /// Documents of files are converted into such as are captured.
+    Convert(ConvertFiles<'a>),
     /// Help, or the version, which is an answer.
     Help(String),
     /// A bad command line, with what is wrong with it.

@@ -5,9 +5,11 @@ ghost use Rattle.clap.specs.Words.{found_of, kind_of, rows_of, subcommand_rows_o
 ghost use Rattle.command_line.specs.CommandLines.{texts_of, AsksDryBatch, AsksFor, AsksLinesAndEvents, AsksNamed, AsksOf, AsksTwoForms, AsksTwoSpellings, AsksUntoldEvents, Gives, GivesDocuments, GivesForm, GivesItem, GivesMost, GivesNumber, GivesOrNone, GivesSpelling, GivesTerms, GivesWays, IsCapture, IsCommand, IsMistake, IsSet, IsStart, IsToldAs, epcs_kind, has_many};
 
 use crate::asked::{Asked, Batch, FileCommand, Terms};
+use crate::convert_commands::convert_command;
 use crate::grammar::recall;
 use crate::helps;
 use crate::lint_commands::lint_command;
+use crate::pack_commands::packs_command;
 use clap::error::ErrorKind;
 use clap::{ArgMatches, Error};
 use folder_commands::{RunTerms, WordKind};
@@ -46,6 +48,8 @@ fn named<'a>(alloc: Global, matches: &ArgMatches<'a>) -> Option<Asked<'a>>
         Some(Asked::Sim)
     } else if name == "lint" {
         lint_command(alloc, given, form)
+    } else if name == "convert" {
+        convert_command(alloc, given, form)
     } else {
         let wait = number(given, "wait")?;
         let most = most_of(given)?;
@@ -67,6 +71,8 @@ fn on_folder<'a>(
         capture_command(alloc, given, terms)
     } else if name == "start" {
         start_command(alloc, given, terms)
+    } else if name == "packs" {
+        packs_command(given, terms)
     } else {
         let command = file_command(name, given)?;
         Some(Asked::Files(command, terms))
@@ -203,7 +209,7 @@ pub(crate) fn copied<'a>(alloc: Global, texts: &[&'a str]) -> Result<Vec<&'a str
 }
 
 /// Whether the option of a name is there.
-fn is_set(given: &ArgMatches<'_>, name: &str) -> bool
+pub(crate) fn is_set(given: &ArgMatches<'_>, name: &str) -> bool
     ensures { IsTrue result ↔ IsSet (rows_of (found_of given.now)) name.now }
 {
     match given.get_str(name) {

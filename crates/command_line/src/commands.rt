@@ -6,9 +6,11 @@ ghost use Rattle.command_line.specs.Lives.{LeadByActs};
 
 use crate::asked::Asked;
 use crate::batch_commands::take_batch;
+use crate::convert_commands::convert_files;
 use crate::folder_tasks::do_command;
 use crate::limits::LimitsDocuments;
 use crate::lint_commands::lint_files;
+use crate::pack_commands::pack_files;
 use crate::sinks::print;
 use crate::{command_lines, statuses};
 use keeper_core::SiteKeeper;
@@ -56,8 +58,9 @@ pub fn run_command<
     output: &mut W,
     errors: &mut E,
 ) -> u8
-    // A command line asks for a script, a command on files, several inputs, a look through documents, help, or is a bad
-    // one, as `clap` reads it for this command; or memory runs out.
+    // A command line asks for a script, a command on files, several inputs, a look through documents, the packings that
+    // close gaps, a conversion of documents, help, or is a bad one, as `clap` reads it for this command; or memory runs
+    // out.
     //
     // A command on files was done: its row says what the calls of the files that lead to its output say of the records
     // and of the outcome; that was written in the form that was asked for, with the outcome's status, or writing
@@ -67,6 +70,14 @@ pub fn run_command<
     //
     // Several inputs end as `take_inputs` says, with a line for what came of each, written once it is kept; a look
     // through documents as `lint_documents` says.
+    //
+    // The packings that close gaps are those of the folder's records, as documents: a line of each was written, with 0,
+    // or writing failed, with 3; or the site isn't listed, which is refused.
+    //
+    // In a conversion each file was read, one after another, and the lines of its documents were written, in order, and
+    // nothing else, with 0, or 1 exactly where something in a file is no document. Or a fault ended it, with 3: the
+    // files before one were converted, and that one can't be read, memory ran out at it, or its lines can't be written.
+    // Not covered: what the error stream is told.
     //
     // Help has 0, or 3 where it couldn't be written; a bad command line has 2, and nothing was read or written.
     // Not covered: the text of help.
@@ -92,6 +103,8 @@ pub fn run_command<
         }
         Ok(Asked::Batch(batch)) => take_batch(alloc, files, &batch, output, errors),
         Ok(Asked::Lint(asked)) => lint_files(alloc, files, &asked, output, errors),
+        Ok(Asked::Packs(asked)) => pack_files(alloc, files, &asked, output, errors),
+        Ok(Asked::Convert(asked)) => convert_files(alloc, files, &asked, output, errors),
         Ok(Asked::Help(text)) => help(text.as_str(), output, errors),
         Ok(Asked::Mistake(text)) => {
             say(errors, text.as_str());

@@ -2,7 +2,7 @@
 
 ghost use Rattle.std.specs.Prelude.{◌≡◌, false, IfOk, codes};
 ghost use Rattle.clap.specs.Words.{app_of, new_rule, rule_of};
-ghost use Rattle.command_line.specs.CommandLines.{audit, capture, capturing, epcs, files, flag, folder, gaps, init, items, lint, max_bytes, on_folder, recall, report, required, run, sim, start, status, trace, turns, wait};
+ghost use Rattle.command_line.specs.CommandLines.{audit, capture, capturing, convert, epcs, files, flag, folder, gaps, init, items, lint, max_bytes, on_folder, packs, recall, report, required, run, sim, start, status, trace, turns, wait};
 
 use crate::helps;
 use clap::builder::ValueParser;
@@ -31,7 +31,9 @@ pub(crate) fn recall<'a>(alloc: Global) -> Result<Command<'a>, AllocError>
         .subcommand(status(alloc)?)?
         .subcommand(items(alloc)?)?
         .subcommand(lint(alloc)?)?
-        .subcommand(gaps(alloc)?)
+        .subcommand(gaps(alloc)?)?
+        .subcommand(packs(alloc)?)?
+        .subcommand(convert(alloc)?)
 }
 
 /// An argument that has to be there.
@@ -389,6 +391,15 @@ fn gaps<'a>(alloc: Global) -> Result<Command<'a>, AllocError>
     ))
 }
 
+fn packs<'a>(alloc: Global) -> Result<Command<'a>, AllocError>
+    ensures { IfOk result (λ command. app_of command ≡ packs) }
+{
+    on_folder(alloc, "packs", helps::PACKS_ABOUT, helps::PACKS_EXAMPLE)?.arg(of_site(
+        alloc,
+        "The site; all of them where it is left out",
+    ))
+}
+
 fn items<'a>(alloc: Global) -> Result<Command<'a>, AllocError>
     ensures { IfOk result (λ command. app_of command ≡ items) }
 {
@@ -414,12 +425,40 @@ fn lint<'a>(alloc: Global) -> Result<Command<'a>, AllocError>
         .arg(max_bytes(alloc))
 }
 
+fn convert<'a>(alloc: Global) -> Result<Command<'a>, AllocError>
+    ensures { IfOk result (λ command. app_of command ≡ convert) }
+{
+    Command::new(alloc, "convert")
+        .about(helps::CONVERT_ABOUT)
+        .after_help(helps::CONVERT_EXAMPLE)
+        .arg(files(alloc))?
+        .arg(json(alloc))?
+        .arg(flag(
+            alloc,
+            "lots",
+            "Put the lots of quantity lists among the items",
+        ))?
+        .arg(max_bytes(alloc))
+}
+
 /// The site that is to capture the documents.
 fn capturing<'a>(alloc: Global) -> Arg<'a>
     ensures rule { rule_of result ≡ capturing }
     ensures local { result.global ≡ false }
 {
-    Arg::new(alloc, "site").long("site").value_name("name").help(
+    of_site(
+        alloc,
         "Tell of events that happened at another traced site than this one",
     )
+}
+
+/// One site, which is named by an option.
+fn of_site<'a>(alloc: Global, help: &'a str) -> Arg<'a>
+    ensures rule { rule_of result ≡ capturing }
+    ensures local { result.global ≡ false }
+{
+    Arg::new(alloc, "site")
+        .long("site")
+        .value_name("name")
+        .help(help)
 }

@@ -64,7 +64,9 @@ Questions that change nothing:
   recall status chain                            how each recall stands, and what it waits for
   recall items chain dairy 400                   the items of a site, found by a part of their text
   recall gaps chain                              what sites shipped on that others packed, unseen by recalls
+  recall packs chain --site dairy                the events that close these gaps, as documents to capture
   recall lint sites.txt monday.json              all that is wrong in documents, before they are captured
+  recall convert monday.json                     documents as others write them, as `capture --lines` takes them
 
 A list of sites has a line for each: `site <name> <address>..`, where an address is a destination of
 shipments that stands for the site. An item is an EPC, as urn:epc:id:sgtin:0614141.112345.400, a Digital
@@ -267,6 +269,22 @@ Examples:
 
 Status: 0 done, 1 refused (NoSite: the folder lists no such site), 3 a fault.";
 
+pub(crate) const PACKS_ABOUT: &str =
+    "Prints the packings by which sites close their packed gaps, as documents to capture";
+
+pub(crate) const PACKS_EXAMPLE: &str = "\
+A packed gap is closed where the site that shipped the container on captures what another one packed into it.
+Prints each such event as an EPCIS document in a line of its own, under its own `eventID`, by site, then by who
+packed, then in the order in which it was captured there. Nothing is captured: `recall capture --lines` at the
+site does that. An event that it refuses stays a gap, and hinders no other.
+
+Examples:
+  recall packs chain --site dairy >packings.ndjson
+  recall capture chain dairy --lines packings.ndjson
+  recall gaps chain
+
+Status: 0 done, 1 refused, 3 a fault.";
+
 pub(crate) const GAPS_ABOUT: &str =
     "Finds what sites tell nothing of, so that a recall would miss it: goods in others' containers";
 
@@ -305,3 +323,25 @@ Examples:
   recall lint chain/sites monday/*.json --json
 
 Status: 0 no fault, 1 a fault, or the list is refused, 3 a fault of a file, named on the error stream.";
+
+pub(crate) const CONVERT_ABOUT: &str =
+    "Turns documents as others write them into documents that are captured, one a line";
+
+pub(crate) const CONVERT_EXAMPLE: &str = "\
+Writes a document a line for `recall capture --lines`, in order. A file is one JSON value, or has one in each line; a
+value is an EPCISDocument, with its events in `eventList` or in `event`, an EPCISQueryDocument, an event, or an
+array of these. The type of an event may stand in `@type` or `isA`. A byte order mark is passed over. With `--lots`
+each lot of a list of quantities stands among the items of the list, by its one spelling,
+https://id.gs1.org/01/<gtin>/10/<lot>, and so does each lot that an event names among its items; an event of which an
+element has no lot stays as it is.
+
+The error stream tells what is no document, `refused Doc Syntax` or `NotDocument` with the file and the line, and
+then `note: written <documents> events <events> lots <lots> left <events>`: the events that are left still have
+quantities, with which a capture refuses them. It is for a folder from its first capture on: an event that was
+captured without `--lots` is another one with it.
+
+Examples:
+  recall convert answer-of-a-query.json | recall capture chain dairy - --lines
+  recall convert --lots monday/*.json > monday.ndjson
+
+Status: 0 done, 1 something is no document, 3 a fault of a file, named on the error stream.";

@@ -5,12 +5,14 @@ mod asked;
 mod batch_commands;
 mod command_lines;
 mod commands;
+mod convert_commands;
 mod folder_tasks;
 mod grammar;
 mod helps;
 pub mod laws;
 mod limits;
 mod lint_commands;
+mod pack_commands;
 mod sinks;
 mod statuses;
 

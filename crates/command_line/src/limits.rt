@@ -9,4 +9,8 @@ pub trait LimitsDocuments {
     /// Limits the bytes of a document, or of a line of a file of lines: a longer one can't be read then.
     fn limit_to(&mut self, bytes: u64)
         ensures { limits self.old bytes self.new };
+
+    /// Limits the bytes of each file that is read whole: no list of sites is among them.
+    fn limit_all_to(&mut self, bytes: u64)
+        ensures { limits self.old bytes self.new };
 }

@@ -62,6 +62,8 @@ impl LimitsDocuments for MemoryFiles {
     ghost limits = { λ _ _ _. ⊤ };
 
     fn limit_to(&mut self, _: u64) {}
+
+    fn limit_all_to(&mut self, _: u64) {}
 }
 
 impl Files<MemoryKeeper> for MemoryFiles {

@@ -27,7 +27,7 @@ pub(crate) fn advice(outcome: &Outcome) -> Option<&'static str> {
             )
         }
         Outcome::Withheld => Some(
-            "note: nothing was sent; have those sites capture the packings, and run again, or run without `--unless-gaps`\n",
+            "note: nothing was sent; have those sites capture the packings, which `recall packs` prints, and run again, or run without `--unless-gaps`\n",
         ),
         Outcome::Audited { recalls, coded: _ } => or_none(
             recalls.is_empty(),
@@ -35,7 +35,7 @@ pub(crate) fn advice(outcome: &Outcome) -> Option<&'static str> {
         ),
         Outcome::Gaps { gaps, coded: _ } => or_none(
             gaps.packed.lines.len() > 0,
-            "note: past the site that shipped such a container on, a recall finds nothing of what others packed into it: have that site capture the packing, an AggregationEvent with the action ADD, before a recall reaches it\n",
+            "note: past the site that shipped such a container on, a recall finds nothing of what others packed into it: before one reaches it, have that site capture the packing, which `recall packs` prints\n",
         ),
         Outcome::Refused(whys) => or_none(
             whys.iter().any(|why| is_blocked(why)),

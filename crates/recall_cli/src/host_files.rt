@@ -267,6 +267,11 @@ impl LimitsDocuments for HostFiles<'_> {
     fn limit_to(&mut self, bytes: u64) {
         self.most = bytes;
     }
+
+    fn limit_all_to(&mut self, bytes: u64) {
+        self.most = bytes;
+        self.has_list = true;
+    }
 }
 
 impl Files<FileSite> for HostFiles<'_> {

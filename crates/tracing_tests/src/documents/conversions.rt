@@ -1,6 +1,6 @@
 //! Documents as they are found, and those that are captured of them, by rows.
 
-use document_convert::{document_with_lots, documents_in, lot_of};
+use document_convert::{convert, document_with_lots, documents_in, lot_of};
 use serde_json::Value;
 use std::alloc::Global;
 use std::test::*;
@@ -211,5 +211,59 @@ fn quantities(rt: HostRuntime) -> Result<(), Fail> {
         ),
     ];
     assert!(rt; are_lotted(rt.alloc(), &rows)?);
+    Ok(())
+}
+
+/// The lines that a text is turned into, and then what is none of it: its line, its number and its fault.
+fn written(alloc: Global, text: &str, lots: bool) -> Result<String, Fail> {
+    let converted = convert(alloc, text.as_bytes(), lots)?;
+    let mut out = String::new(alloc);
+    out.push_str(converted.lines.as_str())?;
+    for refused in &converted.refused {
+        let (line, number) = (refused.line, refused.fault.event);
+        let name = refused.fault.kind.name();
+        out.push_str(format!(in alloc; "{line} {number} {name}\n")?.as_str())?;
+    }
+    out.push_str(converted.account.text(alloc)?.as_str())?;
+    Ok(out)
+}
+
+#[test]
+fn texts(rt: HostRuntime) -> Result<(), Fail> {
+    let rows = [
+        (
+            "\u{feff} {\"type\":\"ObjectEvent\"}\n",
+            "{\"type\":\"ObjectEvent\"}\nnote: written 1 events 1 lots 0 left 0\n",
+        ),
+        (
+            "\n{\"isA\":\"ObjectEvent\"}\r\n \n{\n[7,{\"type\":\"TransactionEvent\"}]",
+            "{\"isA\":\"ObjectEvent\",\"type\":\"ObjectEvent\"}\n{\"type\":\"TransactionEvent\"}\n4 0 Syntax\n5 1 NotDocument\nnote: written 2 events 2 lots 0 left 0\n",
+        ),
+        ("", "0 0 Syntax\nnote: written 0 events 0 lots 0 left 0\n"),
+        (
+            "x\n{\"type\":\"ObjectEvent\"}",
+            "0 0 Syntax\nnote: written 0 events 0 lots 0 left 0\n",
+        ),
+        (
+            "{}",
+            "0 0 NotDocument\nnote: written 0 events 0 lots 0 left 0\n",
+        ),
+    ];
+    for (text, want) in &rows {
+        assert!(rt; written(rt.alloc(), text, false)?.as_str() == *want);
+    }
+    Ok(())
+}
+
+#[test]
+fn texts_with_lots(rt: HostRuntime) -> Result<(), Fail> {
+    let text =
+        "{\"type\":\"ObjectEvent\",\"quantityList\":[{\"epcClass\":\"urn:epc:class:lgtin:9521321.000017.Y-1\"}]}";
+    let bare =
+        "{\"type\":\"ObjectEvent\",\"quantityList\":[{\"epcClass\":\"urn:epc:idpat:sgtin:9521321.000017.*\"}]}";
+    let given = format!(in rt.alloc(); "{text}\n{bare}")?;
+    let want =
+        "{\"epcList\":[\"https://id.gs1.org/01/09521321000179/10/Y-1\"],\"type\":\"ObjectEvent\"}\n{\"quantityList\":[{\"epcClass\":\"urn:epc:idpat:sgtin:9521321.000017.*\"}],\"type\":\"ObjectEvent\"}\nnote: written 2 events 2 lots 1 left 1\n";
+    assert!(rt; written(rt.alloc(), given.as_str(), true)?.as_str() == want);
     Ok(())
 }

@@ -25,4 +25,6 @@ returns c =
     let ninth = adds_command _ _ _ _ _ c.in_ok-subcommand-8.ensures eighth c.in_ok-status.ensures refl in
     let tenth = adds_command _ _ _ _ _ c.in_ok-subcommand-9.ensures ninth c.in_ok-items.ensures refl in
     let eleventh = adds_command _ _ _ _ _ c.in_ok-subcommand-10.ensures tenth c.in_ok-lint.ensures refl in
-    IfOk-weaker c.subcommand-12.result _ _ (λ command adds. adds_command _ _ command _ _ adds eleventh c.in_ok-gaps.ensures refl) c.subcommand-12.ensures
+    let twelfth = adds_command _ _ _ _ _ c.in_ok-subcommand-11.ensures eleventh c.in_ok-gaps.ensures refl in
+    let thirteenth = adds_command _ _ _ _ _ c.in_ok-subcommand-12.ensures twelfth c.in_ok-packs.ensures refl in
+    IfOk-weaker c.subcommand-14.result _ _ (λ command adds. adds_command _ _ command _ _ adds thirteenth c.in_ok-convert.ensures refl) c.subcommand-14.ensures

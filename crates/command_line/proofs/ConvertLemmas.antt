@@ -1,0 +1,127 @@
+-- Conversions, file by file.
+use Rattle.std.proofs.Common.{◌≡◌, ◌⊎◌, ◌+◌, ◌<◌, ℕ, Bool, Bor, true, false, List, [], ◌∷◌, ◌++◌, Option, inl, inr, map, take, drop, length, get_or, refl, sym, ap, ◌∙◌, subst, append_assoc, append-nil}
+use Rattle.std.specs.Prelude.{◌||◌}
+use Rattle.std.specs.List.{flat_map, list_any}
+use Rattle.std.proofs.KnownBytes.{Appends-nil, Appends-trans}
+use Rattle.std.proofs.lemmas.Grind.{flat_map-append}
+use Rattle.std.proofs.lemmas.List.{map-append, map_more, map_push, take-append-drop}
+use Rattle.std.proofs.lemmas.List.Folds.{list_any-append}
+use Rattle.serde_json.specs.Data.{Data}
+use Rattle.document_convert.specs.Converted.{AreLinesOf, documents_of, refusals_of}
+use Rattle.document_convert.specs.Texts.{pieces_of}
+use Rattle.recall_outcomes.specs.declared.faults.Fault.{Fault}
+use Rattle.recall_outcomes.specs.declared.faults.Fault.TheVariants.{NoMemory, Write}
+use Rattle.site_folders.specs.Faults.{OnlyAsks}
+use Rattle.site_folders.specs.FileCalls.{FileCall, Failed, Led, ReadFile}
+use Rattle.site_folders.proofs.CallsInTurn.{led_then}
+use Rattle.site_folders.proofs.VainLemmas.{asks_first, asks_then, none_asks}
+use Rattle.command_line.specs.Converting.{BreaksAt, ConvertFails, Converts, ConvertsOne, is_told}
+
+-- the lines of some documents, and then those of others
+lines_then : (ds es : List Data) (lines more : List ℕ) → AreLinesOf ds lines → AreLinesOf es more → AreLinesOf (ds ++ es) (lines ++ more)
+lines_then [] es lines more none are = subst (λ ls. AreLinesOf es (ls ++ more)) (sym none) are
+lines_then (d ∷ ds) es lines more (line, rest, is, its, all) are =
+    (line, rest ++ more, is, lines_then ds es rest more its are, ap (λ ls. ls ++ more) all ∙ append_assoc line rest more)
+
+or_false : (a b : Bool) → (a || (b || false)) ≡ (a || b)
+or_false a b = ap (λ c. a || c) (last b)
+  where
+    last : (c : Bool) → (c || false) ≡ c
+    last true = refl
+    last false = refl
+
+module _ {K W : Type 0} (contents : W → Option (List ℕ)) (lots : Bool) where
+  -- no file yet
+  pub none_converted : (out : W) → Converts {K = K} contents lots [] out out false []
+  none_converted out = record { files = []; of_paths = refl; read = refl; lines = []; are = refl; written = Appends-nil (contents out); refused_is = refl }
+
+  -- a file more
+  pub one_converted : (paths : List (List ℕ)) (path : List ℕ) (a b c : W) (earlier refused : Bool) (calls more : List (FileCall K))
+      → Converts contents lots paths a b earlier calls → ConvertsOne contents lots path b c earlier refused more
+      → Converts contents lots (paths ++ path ∷ []) a c refused (calls ++ more)
+  one_converted paths path a b c earlier refused calls more done one =
+      let file : List ℕ × List ℕ = (path, one.text) in
+      let documents : List ℕ × List ℕ → List Data = λ f. documents_of lots (pieces_of f.1) in
+      let told : List ℕ × List ℕ → Bool = λ f. is_told (refusals_of (pieces_of f.1)) in
+      let call : List ℕ × List ℕ → FileCall K = λ f. ReadFile f.0 f.1 in
+      record {
+        files = done.files ++ file ∷ [];
+        of_paths = map_push (λ f. f.0) done.files file ∙ ap (λ ps. ps ++ path ∷ []) done.of_paths;
+        read = ap (λ cs. cs ++ more) done.read ∙ ap (λ cs. map call done.files ++ cs) one.read ∙ sym (map_push call done.files file);
+        lines = done.lines ++ one.lines;
+        are =
+            subst (λ ds. AreLinesOf ds (done.lines ++ one.lines))
+            (sym (flat_map-append documents done.files (file ∷ []) ∙ ap (λ ds. flat_map documents done.files ++ ds) (append-nil (documents file))))
+            (lines_then (flat_map documents done.files) (documents file) done.lines one.lines done.are one.are);
+        written = Appends-trans (contents a) (contents b) (contents c) done.lines one.lines done.written one.written;
+        refused_is =
+            one.refused_is ∙ ap (λ (r : Bool). r || told file) done.refused_is
+            ∙ sym (list_any-append told done.files (file ∷ []) ∙ or_false (list_any told done.files) (told file));
+      }
+
+  -- ---- its calls
+
+  reads_ask : (files : List (List ℕ × List ℕ)) → OnlyAsks {K = K} (map (λ file. ReadFile file.0 file.1) files)
+  reads_ask [] = none_asks
+  reads_ask (file ∷ files) = asks_first (ReadFile file.0 file.1) (map (λ f. ReadFile f.0 f.1) files) tt (reads_ask files)
+
+  pub converts_ask : (paths : List (List ℕ)) (a b : W) (refused : Bool) (calls : List (FileCall K)) → Converts contents lots paths a b refused calls → OnlyAsks calls
+  converts_ask paths a b refused calls done = subst (λ cs. OnlyAsks cs) (sym done.read) (reads_ask done.files)
+
+  breaks_ask : (path : List ℕ) (a b : W) (fault : Fault) (calls : List (FileCall K)) → BreaksAt contents path a b fault calls → OnlyAsks calls
+  breaks_ask path a b fault calls (inl (is, same)) = subst (λ cs. OnlyAsks cs) (sym is) (asks_first (Failed path fault) [] tt none_asks)
+  breaks_ask path a b fault calls (inr (text, is, why)) = subst (λ cs. OnlyAsks cs) (sym is) (asks_first (ReadFile path text) [] tt none_asks)
+
+  pub fails_ask : (paths : List (List ℕ)) (a b : W) (fault : Fault) (calls : List (FileCall K)) → ConvertFails contents lots paths a b fault calls → OnlyAsks calls
+  fails_ask paths a b fault calls fails =
+      subst (λ cs. OnlyAsks cs) (sym fails.calls_are)
+      (asks_then fails.first fails.last (converts_ask fails.done a fails.mid fails.refused fails.first fails.converted) (breaks_ask fails.path fails.mid b fault fails.last fails.broke))
+
+-- ---- faults
+
+module _ {F K W : Type 0} (does : F → FileCall K → F → Type 0) (contents : W → Option (List ℕ)) (path : List ℕ) (out : W) (fault : Fault) (old new : F) where
+  -- the file can't be read
+  pub convert_unread : does old (Failed path fault) new → Led does old new (BreaksAt contents path out out fault)
+  convert_unread failed = record { calls = Failed path fault ∷ []; are = inl (refl, refl); led = (new, failed, refl) }
+
+  -- memory ran out at it
+  pub convert_ran_out : (text : List ℕ) → does old (ReadFile path text) new → fault ≡ NoMemory → Led does old new (BreaksAt contents path out out fault)
+  convert_ran_out text read is = record { calls = ReadFile path text ∷ []; are = inr (text, refl, inl (is, refl)); led = (new, read, refl) }
+
+  -- its lines can't be written
+  pub convert_unwritten : (text : List ℕ) (after : W) → does old (ReadFile path text) new → fault ≡ Write → Led does old new (BreaksAt contents path out after fault)
+  convert_unwritten text after read is = record { calls = ReadFile path text ∷ []; are = inr (text, refl, inr is); led = (new, read, refl) }
+
+-- the paths before one, that one, and those behind it
+pub paths_parted : (paths : List (Bor (List ℕ))) (n : ℕ) (d : Bor (List ℕ)) → n < length paths
+    → map (λ p. p.now) paths ≡ map (λ p. p.now) (take n paths) ++ (get_or paths n d).now ∷ map (λ p. p.now) (drop (n + 1) paths)
+paths_parted paths n d few =
+    let now : Bor (List ℕ) → List ℕ = λ p. p.now in
+    sym (ap (map now) (take-append-drop (n + 1) paths))
+    ∙ map-append now (take (n + 1) paths) (drop (n + 1) paths)
+    ∙ ap (λ ps. ps ++ map now (drop (n + 1) paths)) (map_more now paths n d few)
+    ∙ append_assoc (map now (take n paths)) ((get_or paths n d).now ∷ []) (map now (drop (n + 1) paths))
+
+-- behind other files
+pub convert_broke : {F K W : Type 0} (does : F → FileCall K → F → Type 0) (contents : W → Option (List ℕ)) (lots : Bool) (old mid new : F) (before between after : W) (refused : Bool)
+    (paths done others : List (List ℕ)) (path : List ℕ) (fault : Fault) → paths ≡ done ++ path ∷ others
+    → Led does old mid (Converts contents lots done before between refused) → Led does mid new (BreaksAt contents path between after fault)
+    → Led does old new (ConvertFails contents lots paths before after fault)
+convert_broke {F} {K} does contents lots old mid new before between after refused paths done others path fault are first fails =
+    led_then does old mid new both first fails
+  where
+    both : (xs ys : List (FileCall K)) → Converts contents lots done before between refused xs → BreaksAt contents path between after fault ys
+        → ConvertFails contents lots paths before after fault (xs ++ ys)
+    both xs ys converted broke = record {
+      done = done;
+      path = path;
+      others = others;
+      paths_are = are;
+      mid = between;
+      refused = refused;
+      first = xs;
+      converted = converted;
+      last = ys;
+      broke = broke;
+      calls_are = refl;
+    }

@@ -1,0 +1,16 @@
+use Rattle.std.proofs.Common.{◌≡◌, codes, Some, sym, ap, ◌∙◌, map}
+use Rattle.clap.specs.Words.{found_of}
+use Rattle.clap.proofs.WalkLemmas.{raw_values-rows}
+use Rattle.command_line.proofs.Words.{ok_there}
+use Rattle.command_line.proofs.convert_commands.convert_command.Goals as goal
+
+pub returns : goal.returns
+returns c =
+    let paths = sym (c.in_ok-paths.ensures ∙ raw_values-rows (found_of c.args.given.now) (codes "file")) in
+    let copy = ok_there (λ v. v.items ≡ c.in_ok-paths.paths.now) c.copied.result c.in_ok-paths-2.paths c.in_ok-paths-2.ensures.value c.copied.ensures in
+    record {
+      files = paths ∙ ap (λ xs. Some (map (λ p. p.now) xs)) (sym copy);
+      lots = c.is_set-lots.ensures;
+      most = c.in_ok-most.ensures;
+      form = c.requires;
+    }
