@@ -24,7 +24,7 @@ pub fn packing_document(alloc: Global, event: &Event) -> Result<Option<String>, 
     // There is none only where the event is no packing, or no time names its instant.
     ensures none { IfOk result (λ text. text ≡ None → IsNotWritten event.now) }
     // It is the text of a document of this event, with the members that such a document has and no others.
-    // Not covered: which of its texts stands for an item, and that the time is in UTC: tracing_tests has rows.
+    // Not covered: which of its texts stands for an item, and that the time is in UTC: tests/scripts has rows.
     ensures is { IfOk result (λ text. IfSome text (λ t. IsPackingText event.now (string_bytes t))) }
     // It is read as this event alone.
     ensures read { IfOk result (λ text. IfSome text (λ t. IsReadAs event.now (string_bytes t))) }

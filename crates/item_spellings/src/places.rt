@@ -9,7 +9,7 @@ use crate::bytes::{are_digits, weighted_sum};
 /// not how many digits the company prefix has, so that it has an EPC URI for each number of 6 to 12.
 #[tactic(auto, unfolding(crate::specs::Places::are_one_place))]
 pub fn are_one_place(a: &str, b: &str) -> bool
-    // Not covered: the definition stands by its words; tracing_tests has rows.
+    // Not covered: the definition stands by its words; tests/scripts has rows.
     ensures { result ≡ are_one_place a.now b.now }
 {
     is_uri_of_link(a.as_bytes(), b.as_bytes()) || is_uri_of_link(b.as_bytes(), a.as_bytes())
