@@ -8,9 +8,11 @@
 #     tests/hostile.sh --minute            a minute of it, which .ci/run runs
 #     tests/hostile.sh --only PART..       parts of it: tests/hostile/campaign.py lists them
 #
-# --seed N chooses the random cases; it is printed, and the same one gives the same cases in the same order. --thin 4 makes a fourth of the cases,
-# --seconds N ends after so long, --quiet tells those alone that depart. RECALL names another program. It ends with status 0 where nothing
-# departs from what is promised. Without python3 nothing is run; without strace or a C compiler parts are left out, and it says so.
+# --seed N chooses the random cases; it is printed, and the same one gives the same cases in the same order. --thin 4 makes a
+# fourth of the cases, --shard 2/4 the second of four shares of those of a long part, so that four programs make them all side
+# by side. --seconds N ends after so long, --quiet tells those alone that depart. RECALL names another program. It ends with
+# status 0 where nothing departs from what is promised. Without python3 nothing is run; without strace or a C compiler parts are
+# left out, and it says so.
 set -u
 here=$(cd "$(dirname "$0")/.." && pwd) || exit 2
 recall=${RECALL:-}

@@ -1,9 +1,10 @@
 """The campaign, part by part: a line a case, the counts at the end, status 0 where nothing departs.
 
-    RECALL=.. python3 campaign.py [--minute] [--seed N] [--only PART..] [--leave PART..] [--seconds N] [--thin N] [--quiet]
+    RECALL=.. python3 campaign.py [--minute] [--seed N] [--only PART..] [--leave PART..] [--seconds N] [--thin N | --shard K/N] [--quiet]
 
 --minute runs a minute of it: of each part a few cases, chosen by the seed. --seconds ends the whole after so long, --thin 4 makes
-each fourth case of the long parts alone. tests/hostile.sh makes ready what it needs, and says what is left out.
+each fourth case of the long parts alone, and --shard 2/4 each fourth one from the second on, so that four programs make all of
+them side by side. tests/hostile.sh makes ready what it needs, and says what is left out.
 """
 import argparse
 import os
@@ -31,11 +32,19 @@ class Clock:
         return self.ends is not None and time.monotonic() > self.ends
 
 
+def shard(text):
+    """Which of so many shares of the cases: 2/4 is the second of four."""
+    which, count = map(int, text.split("/"))
+    if not 1 <= which <= count:
+        raise ValueError(text)
+    return which, count
+
+
 class Setting:
     """How much is run: all of it, or what fits, by a seed."""
 
     def __init__(self, asked, part, clock):
-        self.seed, self.whole, self.thin = asked.seed, not asked.minute, asked.thin
+        self.seed, self.whole, self.thin, self.shard = asked.seed, not asked.minute, asked.thin, asked.shard
         self.chance = random.Random(f"{asked.seed} {part}")
         self.clock = clock
 
@@ -46,6 +55,8 @@ class Setting:
             self.chance.shuffle(cases)
         elif self.thin > 1:
             cases = cases[self.chance.randrange(self.thin) :: self.thin]
+        else:
+            cases = cases[self.shard[0] - 1 :: self.shard[1]]
         for it in cases:
             if self.clock.is_over():
                 return
@@ -136,6 +147,7 @@ def main():
     asked.add_argument("--leave", nargs="*", choices=PARTS, default=[])
     asked.add_argument("--seconds", type=float)
     asked.add_argument("--thin", type=int, default=1)
+    asked.add_argument("--shard", type=shard, default=(1, 1))
     asked.add_argument("--quiet", action="store_true")
     asked = asked.parse_args()
     asked.seed = asked.seed or str(int(time.time()))
