@@ -3,6 +3,7 @@ pub mod BatchSteps
 pub mod EdgeLists
 pub mod EventsInTurn
 pub mod GapSteps
+pub mod InsideSteps
 pub mod KnownSteps
 pub mod LeastSources
 pub mod LineSteps

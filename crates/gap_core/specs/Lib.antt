@@ -3,6 +3,7 @@ pub mod Batches
 pub mod GapItems
 pub mod GapLines
 pub mod GapPacks
+pub mod Inside
 pub mod Laws
 pub mod Lines
 pub mod Missed

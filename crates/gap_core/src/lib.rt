@@ -9,6 +9,7 @@
 mod batches;
 mod gap_items;
 mod inputs;
+mod inside;
 mod item_lists;
 pub mod laws;
 mod lines;
@@ -28,6 +29,7 @@ mod used;
 mod walks;
 
 pub use gap_items::{GapItem, items_in_gaps};
+pub use inside::items_inside;
 pub use lines::{GapLine, Gaps, packed_gaps, used_gaps};
 pub use missed::missed_pairs;
 pub use missed_reach::missed_among;
