@@ -1,3 +1,4 @@
+pub mod CountedItems
 pub mod Ended
 pub mod Inside
 pub mod Keeping

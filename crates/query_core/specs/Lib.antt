@@ -1,4 +1,5 @@
 pub mod BySite
+pub mod Counted
 pub mod KnownItems
 pub mod Laws
 pub mod Lists

@@ -3,7 +3,8 @@ ghost use Rattle.std.specs.Prelude.{◌≡◌, ◌↔◌, IfOk};
 ghost use Rattle.std.specs.BTreeMap.{IsOrdered};
 ghost use Rattle.site_core.specs.ItemSets.{item_cmp};
 ghost use Rattle.query_core.specs.KnownItems.{AreKnownItems};
-ghost use Rattle.query_core.specs.Mentions.{is_inside, told};
+ghost use Rattle.query_core.specs.Counted.{counted_items, told_among};
+ghost use Rattle.query_core.specs.Mentions.{counted, is_inside, kept, told};
 
 use crate::mentions::{Mentions, keep_quarantined, mentions_in};
 use epc_core::Epc;
@@ -58,6 +59,54 @@ fn those_with(
         }
     }
     Ok(items)
+}
+
+/// Those of some items in whose keys the text stands, in their order, each with the number of events that the site
+/// captured and that name it: 0 where it doesn't know the item.
+///
+/// # Errors
+/// Out of memory.
+pub fn counted_items(
+    alloc: Global,
+    state: &SiteState,
+    items: Vec<Epc>,
+    text: &str,
+) -> Result<Vec<KnownItem>, AllocError>
+    ensures { IfOk result (λ known. known.items
+        ≡ counted_items state.now.captured.events text.now items.items) }
+{
+    let counts = mentions_in(alloc, state.captured())?;
+    those_counted(alloc, &counts, items, text)
+}
+
+/// Those of the items in whose keys the text stands, by what was counted.
+fn those_counted(
+    alloc: Global,
+    counts: &BTreeMap<Epc, Mentions>,
+    items: Vec<Epc>,
+    text: &str,
+) -> Result<Vec<KnownItem>, AllocError>
+    ensures { IfOk result (λ known. known.items
+        ≡ told_among counts.now text.now items.items) }
+{
+    let mut known = Vec::new(alloc);
+    for item in items {
+        if has_inside(alloc, &item, text)? {
+            let events = count_of(counts, &item);
+            known.push(KnownItem { item, events })?;
+        }
+    }
+    Ok(known)
+}
+
+/// How many events were counted that name an item.
+fn count_of(counts: &BTreeMap<Epc, Mentions>, item: &Epc) -> u64
+    ensures { result ≡ counted (kept counts.now item.now) }
+{
+    match counts.get(item) {
+        Some(mentions) => mentions.events,
+        None => 0,
+    }
 }
 
 /// Whether the text stands in the item's key.

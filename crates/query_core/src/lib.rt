@@ -12,7 +12,7 @@ mod stuck;
 mod sums;
 mod waiting;
 
-pub use known_items::{KnownItem, known_items_with};
+pub use known_items::{KnownItem, counted_items, known_items_with};
 pub use recalls::{
     QueryFault, RecallDetail, RecallStatus, SiteStanding, WaitingMessage, recall_detail,
     recall_statuses,
