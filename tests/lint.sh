@@ -106,6 +106,78 @@ total events 2 faults 0 warnings 1" "" lint "$chain/sites" places.json --site da
 ends 0 "{\"address\":\"https://id.gs1.org/414/9521321000018\",\"event\":2,\"field\":\"bizLocation\",\"file\":\"places.json\",\"warning\":\"OtherPlace\"}
 {\"total\":{\"events\":2,\"faults\":0,\"warnings\":1}}" "" lint --json "$chain/sites" places.json --site plant
 ends 1 "refused NoSite Plant" "" lint "$chain/sites" places.json --site Plant
+
+# events by which goods are lost: destinations of what isn't an ObjectEvent, nothing that is packed, a step with which goods
+# leave; and beside each an event that is meant so
+to_plant='"destinationList":[{"type":"location","destination":"https://id.gs1.org/414/9521321000025"}]'
+{
+    printf '{"type":"EPCISDocument","epcisBody":{"eventList":['
+    event AggregationEvent "\"eventID\":\"a\",\"action\":\"ADD\",\"parentID\":\"p\",\"childEPCs\":[\"x\"],$to_plant"
+    printf ,
+    event TransformationEvent '"eventID":"b","inputEPCList":["x"],"outputEPCList":["y"],"destinationList":{}'
+    printf ,
+    event AggregationEvent "$seen,\"eventID\":\"c\",\"destinationList\":[],\"bizStep\":\"departing\""
+    printf ,
+    event AggregationEvent '"eventID":"d","action":"ADD","parentID":"p","childEPCs":[]'
+    printf ,
+    event AggregationEvent "\"eventID\":\"e\",\"action\":\"ADD\",\"parentID\":\"p\",$to_plant"
+    printf ,
+    event AggregationEvent '"eventID":"f","action":"DELETE","parentID":"p","childEPCs":[]'
+    printf ,
+    event ObjectEvent "$seen,\"eventID\":\"g\",\"epcList\":[\"x\"],\"bizStep\":\"departing\""
+    printf ,
+    event ObjectEvent "$seen,\"eventID\":\"h\",\"epcList\":[\"x\"],\"bizStep\":\"urn:epcglobal:cbv:bizstep:consigning\",\"destinationList\":[]"
+    printf ,
+    event ObjectEvent "$seen,\"eventID\":\"i\",\"epcList\":[\"x\"],\"bizStep\":\"https://ref.gs1.org/cbv/BizStep-departing\""
+    printf ,
+    event ObjectEvent "$seen,\"eventID\":\"j\",\"epcList\":[\"x\"],\"bizStep\":\"departing\",$to_plant"
+    printf ,
+    event ObjectEvent "$seen,\"eventID\":\"k\",\"epcList\":[\"x\"],\"bizStep\":\"loading\""
+    printf ']}}'
+} >lost.json
+ends 0 "warn NotShipped event 1 field destinationList lost.json
+warn NotShipped event 2 field destinationList lost.json
+warn NothingPacked event 4 field childEPCs lost.json
+warn NotShipped event 5 field destinationList lost.json
+warn NothingPacked event 5 field childEPCs lost.json
+warn ShipsNowhere event 7 field destinationList lost.json
+warn ShipsNowhere event 8 field destinationList lost.json
+warn ShipsNowhere event 9 field destinationList lost.json
+total events 11 faults 0 warnings 8" "" lint "$chain/sites" lost.json
+ends 0 "{\"event\":1,\"field\":\"destinationList\",\"file\":\"lost.json\",\"warning\":\"NotShipped\"}
+{\"event\":2,\"field\":\"destinationList\",\"file\":\"lost.json\",\"warning\":\"NotShipped\"}
+{\"event\":4,\"field\":\"childEPCs\",\"file\":\"lost.json\",\"warning\":\"NothingPacked\"}
+{\"event\":5,\"field\":\"destinationList\",\"file\":\"lost.json\",\"warning\":\"NotShipped\"}
+{\"event\":5,\"field\":\"childEPCs\",\"file\":\"lost.json\",\"warning\":\"NothingPacked\"}
+{\"event\":7,\"field\":\"destinationList\",\"file\":\"lost.json\",\"warning\":\"ShipsNowhere\"}
+{\"event\":8,\"field\":\"destinationList\",\"file\":\"lost.json\",\"warning\":\"ShipsNowhere\"}
+{\"event\":9,\"field\":\"destinationList\",\"file\":\"lost.json\",\"warning\":\"ShipsNowhere\"}
+{\"total\":{\"events\":11,\"faults\":0,\"warnings\":8}}" "" lint --json "$chain/sites" lost.json
+
+# destinations at the location of a listed site, in other spellings: with an extension, on another host, the GLN alone. A wrong
+# check digit, another location and an EPC URI without an extension are places outside
+shipped() {
+    local at destinations=
+    for at in "$@"; do
+        destinations="$destinations,{\"type\":\"location\",\"destination\":\"$at\"}"
+    done
+    event ObjectEvent "$seen,\"eventID\":\"a\",\"epcList\":[\"x\"],\"destinationList\":[${destinations#,}]"
+}
+shipped urn:epc:id:sgln:9521321.00002.0 https://id.gs1.org/414/9521321000025/254/7 https://id.gs1.org/414/9521321000025 9521321000032 \
+    http://dairy.example/414/9521321000049/ https://id.gs1.org/414/9521321000026 urn:epc:id:sgln:9521321.00099.0 urn:epc:id:sgln:9521321.00002 >spelled.json
+ends 0 "warn OtherSpelling event 1 field destinationList urn:epc:id:sgln:9521321.00002.0 plant spelled.json
+warn OtherSpelling event 1 field destinationList https://id.gs1.org/414/9521321000025/254/7 plant spelled.json
+warn OtherSpelling event 1 field destinationList 9521321000032 shop-1 spelled.json
+warn OtherSpelling event 1 field destinationList http://dairy.example/414/9521321000049/ shop-2 spelled.json
+warn Outside event 1 field destinationList https://id.gs1.org/414/9521321000026 spelled.json
+warn Outside event 1 field destinationList urn:epc:id:sgln:9521321.00099.0 spelled.json
+warn Outside event 1 field destinationList urn:epc:id:sgln:9521321.00002 spelled.json
+total events 1 faults 0 warnings 7" "" lint "$chain/sites" spelled.json
+printf 'site a urn:epc:id:sgln:9521321.00002.1\nsite b urn:epc:id:sgln:9521321.00003.0 urn:epc:id:sgln:952132100002..2\nsite c\n' >halves
+shipped 9521321000025 urn:epc:id:sgln:9521321.00002.1 >halved.json
+ends 0 "{\"address\":\"9521321000025\",\"event\":1,\"field\":\"destinationList\",\"file\":\"halved.json\",\"site\":\"a\",\"warning\":\"OtherSpelling\"}
+{\"address\":\"9521321000025\",\"event\":1,\"field\":\"destinationList\",\"file\":\"halved.json\",\"site\":\"b\",\"warning\":\"OtherSpelling\"}
+{\"total\":{\"events\":1,\"faults\":0,\"warnings\":2}}" "" lint --json halves halved.json
 for name in dairy plant shop-1 shop-2; do
     "$recall" lint "$chain/sites" "$chain/$name.json" >out 2>err </dev/null || complain "$name.json: $(cat out err)"
     grep -q '^fault' out && complain "$name.json has a fault: $(cat out)"

@@ -311,11 +311,12 @@ pub(crate) const LINT_ABOUT: &str =
 pub(crate) const LINT_EXAMPLE: &str = "\
 Needs the list of sites alone, and writes nothing. `fault <kind> event <number> field <field> <file>` for the
 first fault of each event, in the words of a refused capture; a document without a fault is one that is read.
-`warn` for what is read and probably not meant: ShipsNowhere (shipping without a destination), Outside (a
-destination that is no traced site), Skipped (an event of a type that isn't traced), NoEventID (captured
-again it counts again), NearMiss (begins as an SGTIN or an SSCC and breaks its rules); and with
-`--site <name>` OtherPlace (its readPoint or bizLocation is an address of another site than the one that is to
-capture it). Then a total.
+`warn` for what is read and probably not meant: ShipsNowhere (shipping, departing or consigning without a
+destination), Outside (a destination that is no traced site), OtherSpelling (one with the GLN of this site),
+NotShipped (a destination of an event that isn't an ObjectEvent), NothingPacked (ADD without children), Skipped
+(an event of a type that isn't traced), NoEventID (captured again it counts again), NearMiss (begins as an SGTIN
+or an SSCC and breaks its rules); and with `--site <name>` OtherPlace (its readPoint or bizLocation is an address
+of another site than the one that is to capture it). Then a total.
 
 Examples:
   recall lint examples/dairy/sites examples/dairy/dairy.json

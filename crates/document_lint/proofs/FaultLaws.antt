@@ -12,22 +12,24 @@ use Rattle.event_json.specs.Events.{Content}
 use Rattle.event_json.specs.Faults.{◌>>=◌, at_event}
 use Rattle.event_json.specs.Members.{each}
 use Rattle.event_json.specs.Sites.{Site}
-use Rattle.event_json.specs.Untraced.{in_order, is_aimless, outside_of}
+use Rattle.event_json.specs.Untraced.{in_order, outside_of}
 use Rattle.event_json.specs.declared.bodies.Body.{Body}
 use Rattle.event_json.specs.declared.bodies.Body.TheVariants.{Note, Ship, Make, Pack}
 use Rattle.event_json.specs.declared.doc_faults.DocFault.{DocFault}
 use Rattle.event_json.specs.declared.doc_faults.DocField.{DocField}
 use Rattle.event_json.specs.declared.doc_faults.DocField.TheVariants as fields
 use Rattle.event_json.specs.declared.doc_faults.Flaw.{Flaw}
-use Rattle.document_lint.specs.Findings.{aims, at_number, event_findings, found_in, found_of, length_findings, missed, names, near, nears, nears_of, parent_nears, strange, text_lint, value_lint}
+use Rattle.document_lint.specs.Findings.{at_number, event_findings, found_in, found_of, length_findings, losses, missed, names, near, nears, nears_of, parent_nears, strange, text_lint, told, value_lint}
 use Rattle.document_lint.specs.Laws.{FirstFaultRefuses, first_fault, refused_for}
+use Rattle.document_lint.specs.Locations.{or_outside, sites_meant, spelling, unlisted}
+use Rattle.document_lint.specs.LostGoods.{is_unshipped, packs_nothing, ships_nowhere}
 use Rattle.document_lint.specs.NearMisses.{near_text}
 use Rattle.document_lint.specs.OtherPlaces.{is_other, other_place, other_places, place_text}
 use Rattle.document_lint.specs.declared.findings.Finding.{Finding}
 use Rattle.document_lint.specs.declared.findings.PlaceMember.{PlaceMember}
 use Rattle.document_lint.specs.declared.findings.PlaceMember.TheVariants.{ReadPoint, BizLocation}
 use Rattle.document_lint.specs.declared.findings.What.{What}
-use Rattle.document_lint.specs.declared.findings.What.TheVariants.{ShipsNowhere, Outside, NoEventId, NearMiss, OtherPlace}
+use Rattle.document_lint.specs.declared.findings.What.TheVariants.{ShipsNowhere, Outside, NotShipped, NothingPacked, NoEventId, NearMiss, OtherPlace}
 
 -- none of this is a fault
 record NoFault (found : List What) : Type 0 where
@@ -46,13 +48,31 @@ both xs ys first second = record {
       ∙ ap first_fault (append_assoc (at_number n xs) (at_number n ys) rest) ∙ first.passed n (at_number n ys ++ rest) ∙ second.passed n rest;
 }
 
-aimed : (aimless : Bool) → NoFault (aims aimless)
-aimed true = one_more ShipsNowhere [] (λ n rest. refl) nothing
-aimed false = nothing
+maybe : (is : Bool) (what : What) → ((n : ℕ) (rest : List Finding) → first_fault (record { event = n; what = what } ∷ rest) ≡ first_fault rest) → NoFault (told is what)
+maybe true what passes = one_more what [] passes nothing
+maybe false what passes = nothing
 
-places : (texts : List (List ℕ)) → NoFault (map Outside texts)
-places [] = nothing
-places (text ∷ texts) = one_more (Outside text) (map Outside texts) (λ n rest. refl) (places texts)
+spelled : (text : List ℕ) (meant : List Site) → NoFault (map (spelling text) meant)
+spelled text [] = nothing
+spelled text (s ∷ meant) = one_more (spelling text s) (map (spelling text) meant) (λ n rest. refl) (spelled text meant)
+
+place : (text : List ℕ) (meant : List Site) → NoFault (or_outside text (map (spelling text) meant))
+place text [] = one_more (Outside text) [] (λ n rest. refl) nothing
+place text (s ∷ meant) = spelled text (s ∷ meant)
+
+places : (sites : List Site) (texts : List (List ℕ)) → NoFault (flat_map (unlisted sites) texts)
+places sites [] = nothing
+places sites (text ∷ texts) = both (unlisted sites text) (flat_map (unlisted sites) texts) (place text (sites_meant sites text)) (places sites texts)
+
+lost : (sites : List Site) (d : Data) (body : Body) → NoFault (losses sites d body)
+lost sites d body =
+    let nowhere = told (ships_nowhere d body) ShipsNowhere in
+    let gone = flat_map (unlisted sites) (outside_of body) in
+    let unshipped = told (is_unshipped d body) NotShipped in
+    let unpacked = told (packs_nothing body) NothingPacked in
+    both nowhere (gone ++ (unshipped ++ unpacked)) (maybe (ships_nowhere d body) ShipsNowhere (λ n rest. refl))
+    (both gone (unshipped ++ unpacked) (places sites (outside_of body))
+    (both unshipped unpacked (maybe (is_unshipped d body) NotShipped (λ n rest. refl)) (maybe (packs_nothing body) NothingPacked (λ n rest. refl))))
 
 named : (id : Option (List ℕ)) → NoFault (names id)
 named None = one_more NoEventId [] (λ n rest. refl) nothing
@@ -94,8 +114,7 @@ kept_event : (sites : List Site) (here : Option ℕ) (d : Data) (e : Content) �
 kept_event sites here d e =
     let placed = other_places sites here d in
     let ended = both (nears e.body) placed (bodies e.body) (others sites here d) in
-    both (aims (is_aimless d)) (map Outside (outside_of e.body) ++ (names e.id ++ (nears e.body ++ placed))) (aimed (is_aimless d))
-    (both (map Outside (outside_of e.body)) (names e.id ++ (nears e.body ++ placed)) (places (outside_of e.body)) (both (names e.id) (nears e.body ++ placed) (named e.id) ended))
+    both (losses sites d e.body) (names e.id ++ (nears e.body ++ placed)) (lost sites d e.body) (both (names e.id) (nears e.body ++ placed) (named e.id) ended)
 
 -- ---- the events of a list
 

@@ -1,6 +1,9 @@
 pub mod Alone
 pub mod Apart
 pub mod ApartLaws
+pub mod Cuts
 pub mod FaultLaws
 pub mod FloatFree
+pub mod LocationLaws
 pub mod NearLaws
+pub mod SiteLists

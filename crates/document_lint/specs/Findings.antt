@@ -8,13 +8,15 @@ use Rattle.event_json.specs.Documents.{event_list, few_events, numbered_event, w
 use Rattle.event_json.specs.Events.{Content}
 use Rattle.event_json.specs.Members.{count_of}
 use Rattle.event_json.specs.Sites.{Site}
-use Rattle.event_json.specs.Untraced.{in_order, is_aimless, is_text, outside_of}
+use Rattle.event_json.specs.Untraced.{in_order, is_text, outside_of}
 use Rattle.event_json.specs.declared.bodies.Body.{Body}
 use Rattle.event_json.specs.declared.bodies.Body.TheVariants.{Note, Ship, Make, Pack}
 use Rattle.event_json.specs.declared.doc_faults.DocFault.{DocFault}
 use Rattle.event_json.specs.declared.doc_faults.DocFaultKind.TheVariants as kinds
 use Rattle.event_json.specs.declared.doc_faults.DocField.{DocField}
 use Rattle.event_json.specs.declared.doc_faults.DocField.TheVariants as fields
+use Rattle.document_lint.specs.Locations.{unlisted}
+use Rattle.document_lint.specs.LostGoods.{is_unshipped, packs_nothing, ships_nowhere}
 use Rattle.document_lint.specs.NearMisses.{near_text}
 use Rattle.document_lint.specs.OtherPlaces.{other_places}
 use Rattle.document_lint.specs.declared.findings.Finding.{Finding}
@@ -22,7 +24,7 @@ use Rattle.document_lint.specs.declared.findings.Lint.{Lint}
 use Rattle.document_lint.specs.declared.findings.SkippedType.{SkippedType}
 use Rattle.document_lint.specs.declared.findings.SkippedType.TheVariants.{Transaction, Association}
 use Rattle.document_lint.specs.declared.findings.What.{What}
-use Rattle.document_lint.specs.declared.findings.What.TheVariants.{Fault, Skipped, ShipsNowhere, Outside, NoEventId, NearMiss}
+use Rattle.document_lint.specs.declared.findings.What.TheVariants.{Fault, Skipped, ShipsNowhere, NotShipped, NothingPacked, NoEventId, NearMiss}
 
 -- ---- what is strange about an event that is read
 
@@ -30,9 +32,16 @@ use Rattle.document_lint.specs.declared.findings.What.TheVariants.{Fault, Skippe
 abbrev pub skipped_type : Data → SkippedType
 skipped_type d = if is_text (λ text. bytes_eq text (codes "TransactionEvent")) (type_text d) then Transaction else Association
 
--- it ships without a destination
-abbrev pub aims : Bool → List What
-aims aimless = if aimless then ShipsNowhere ∷ [] else []
+-- this, where it is so
+abbrev pub told : Bool → What → List What
+told is what = if is then what ∷ [] else []
+
+-- what loses its goods to a trace: they leave, and nobody says where to; they go to a place that isn't listed; only an ObjectEvent
+-- would ship them; nothing is packed
+abbrev pub losses : List Site → Data → Body → List What
+losses sites d body =
+    told (ships_nowhere d body) ShipsNowhere
+    ++ (flat_map (unlisted sites) (outside_of body) ++ (told (is_unshipped d body) NotShipped ++ told (packs_nothing body) NothingPacked))
 
 -- it has no eventID
 abbrev pub names : Option (List ℕ) → List What
@@ -62,7 +71,7 @@ nears (Pack action parent children) = parent_nears parent ++ nears_of fields.Chi
 
 -- all of that, and that it happened at another site than the one that captures it, where this is known
 abbrev pub strange : List Site → Option ℕ → Data → Content → List What
-strange sites here d e = aims (is_aimless d) ++ (map Outside (outside_of e.body) ++ (names e.id ++ (nears e.body ++ other_places sites here d)))
+strange sites here d e = losses sites d e.body ++ (names e.id ++ (nears e.body ++ other_places sites here d))
 
 -- ---- an event
 

@@ -1,13 +1,15 @@
 -- What a linter finds, in the words of the one who captures documents.
-use Rattle.std.specs.Prelude.{◌≡◌, ◌&&◌, ℕ, List, [], ◌∷◌, Option, Some, None, Result, Ok, Err, IsSome, IsTrue, if◌then◌else◌, is_none, sum_by}
+use Rattle.std.specs.Prelude.{◌≡◌, ◌≢◌, ◌&&◌, ℕ, All, List, [], ◌∷◌, ◌++◌, codes, take, Option, Some, None, Result, Ok, Err, IsSome, IsTrue, if◌then◌else◌, is_none, sum_by}
 use Rattle.std.specs.List.{AllZip, flat_map}
 use Rattle.epc_core.specs.Items.{key_of, number_key_of}
+use Rattle.epc_core.specs.Numbers.{are_parts}
 use Rattle.serde_json.specs.Data.{Data, item, no_items}
 use Rattle.event_json.specs.Documents.{events_of, text_document}
 use Rattle.event_json.specs.Sites.{Site}
 use Rattle.event_json.specs.declared.doc_faults.DocFault.{DocFault}
 use Rattle.event_json.specs.declared.documents.Doc.{Doc}
 use Rattle.document_lint.specs.Findings.{text_lint}
+use Rattle.document_lint.specs.Locations.{is_gln, location_of}
 use Rattle.document_lint.specs.NearMisses.{is_number_like, near_text}
 use Rattle.document_lint.specs.Splitting.{AreEventsOf, IsAlone}
 use Rattle.document_lint.specs.declared.findings.Finding.{Finding}
@@ -42,6 +44,23 @@ NearMissesSpellNone =
 -- Each text that spells one begins so.
 abbrev pub SpellingsBeginSo : Type 0
 SpellingsBeginSo = (text : List ℕ) → IsSome (number_key_of text) → IsTrue (is_number_like text)
+
+-- a text without a slash
+abbrev pub HasNoSlash : List ℕ → Type 0
+HasNoSlash text = All (λ b. b ≢ 47) text
+
+-- An EPC URI, whatever its extension, a GLN, and a Digital Link of it on any host, with an extension or without, name the location of
+-- that GLN.
+pub record LocationsAreSpelled : Type 0 where
+  pub by_uri :
+      (company reference extension : List ℕ) → IsTrue (are_parts 12 company reference)
+      → location_of (codes "urn:epc:id:sgln:" ++ (company ++ (codes "." ++ (reference ++ (codes "." ++ extension))))) ≡ Some (company ++ reference)
+  pub by_gln : (gln : List ℕ) → IsTrue (is_gln gln) → location_of gln ≡ Some (take 12 gln)
+  pub by_link :
+      (host gln : List ℕ) → HasNoSlash host → IsTrue (is_gln gln) → location_of (codes "https://" ++ (host ++ (codes "/414/" ++ gln))) ≡ Some (take 12 gln)
+  pub by_extended_link :
+      (host gln extension : List ℕ) → HasNoSlash host → IsTrue (is_gln gln)
+      → location_of (codes "https://" ++ (host ++ (codes "/414/" ++ (gln ++ (codes "/254/" ++ extension))))) ≡ Some (take 12 gln)
 
 -- A document of an event alone is read as the event is, or refused for its fault, as that of the first event.
 abbrev pub AloneIsRead : Type 0

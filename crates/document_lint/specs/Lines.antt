@@ -14,7 +14,7 @@ use Rattle.document_lint.specs.declared.findings.Lint.{Lint}
 use Rattle.document_lint.specs.declared.findings.SkippedType.{SkippedType}
 use Rattle.document_lint.specs.declared.findings.SkippedType.TheVariants.{Transaction, Association}
 use Rattle.document_lint.specs.declared.findings.What.{What}
-use Rattle.document_lint.specs.declared.findings.What.TheVariants.{Fault, Skipped, ShipsNowhere, Outside, NoEventId, NearMiss, OtherPlace}
+use Rattle.document_lint.specs.declared.findings.What.TheVariants.{Fault, Skipped, ShipsNowhere, Outside, OtherSpelling, NotShipped, NothingPacked, NoEventId, NearMiss, OtherPlace}
 use Rattle.document_lint.specs.declared.totals.LintTotals.{LintTotals}
 
 -- the type of an event that is skipped
@@ -41,6 +41,10 @@ what_words event (Fault field kind) = named_at (codes "fault") (kind_name kind) 
 what_words event (Skipped its_type) = named (codes "warn") (codes "Skipped") event ++ codes " " ++ type_name its_type
 what_words event ShipsNowhere = named_at (codes "warn") (codes "ShipsNowhere") event fields.DestinationList
 what_words event (Outside place) = named_at (codes "warn") (codes "Outside") event fields.DestinationList ++ codes " " ++ place
+what_words event (OtherSpelling site address) =
+    named_at (codes "warn") (codes "OtherSpelling") event fields.DestinationList ++ codes " " ++ address ++ codes " " ++ site
+what_words event NotShipped = named_at (codes "warn") (codes "NotShipped") event fields.DestinationList
+what_words event NothingPacked = named_at (codes "warn") (codes "NothingPacked") event fields.ChildEpcs
 what_words event NoEventId = named (codes "warn") (codes "NoEventID") event
 what_words event (NearMiss field text) = named_at (codes "warn") (codes "NearMiss") event field ++ codes " " ++ text
 what_words event (OtherPlace place address) = named_in (codes "warn") (codes "OtherPlace") event (place_name place) ++ codes " " ++ address
@@ -67,6 +71,10 @@ file_at source rest = text_at (codes "file") source rest
 abbrev pub warning : List ℕ → Members
 warning name = text_at (codes "warning") name no_members
 
+-- a warning of this name, of the member that is meant
+abbrev pub field_members : List ℕ → ℕ → List ℕ → List ℕ → Members
+field_members source event field name = count_at (codes "event") event (text_at (codes "field") field (file_at source (warning name)))
+
 abbrev pub fault_members : List ℕ → ℕ → List ℕ → List ℕ → Members
 fault_members source event field kind =
     count_at (codes "event") event (text_at (codes "fault") kind (text_at (codes "field") field (file_at source no_members)))
@@ -74,14 +82,16 @@ fault_members source event field kind =
 abbrev pub skipped_members : List ℕ → ℕ → List ℕ → Members
 skipped_members source event its_type = count_at (codes "event") event (file_at source (text_at (codes "type") its_type (warning (codes "Skipped"))))
 
-abbrev pub aimless_members : List ℕ → ℕ → Members
-aimless_members source event =
-    count_at (codes "event") event (text_at (codes "field") (codes "destinationList") (file_at source (warning (codes "ShipsNowhere"))))
-
 abbrev pub outside_members : List ℕ → ℕ → List ℕ → Members
 outside_members source event place =
     text_at (codes "address") place
     (count_at (codes "event") event (text_at (codes "field") (codes "destinationList") (file_at source (warning (codes "Outside")))))
+
+abbrev pub spelling_members : List ℕ → ℕ → List ℕ → List ℕ → Members
+spelling_members source event address site =
+    text_at (codes "address") address
+    (count_at (codes "event") event
+    (text_at (codes "field") (codes "destinationList") (file_at source (text_at (codes "site") site (warning (codes "OtherSpelling"))))))
 
 abbrev pub unnamed_members : List ℕ → ℕ → Members
 unnamed_members source event = count_at (codes "event") event (file_at source (warning (codes "NoEventID")))
@@ -98,8 +108,11 @@ other_members source event field address =
 abbrev pub what_members : List ℕ → ℕ → What → Members
 what_members source event (Fault field kind) = fault_members source event (field_name field) (kind_name kind)
 what_members source event (Skipped its_type) = skipped_members source event (type_name its_type)
-what_members source event ShipsNowhere = aimless_members source event
+what_members source event ShipsNowhere = field_members source event (codes "destinationList") (codes "ShipsNowhere")
 what_members source event (Outside place) = outside_members source event place
+what_members source event (OtherSpelling site address) = spelling_members source event address site
+what_members source event NotShipped = field_members source event (codes "destinationList") (codes "NotShipped")
+what_members source event NothingPacked = field_members source event (codes "childEPCs") (codes "NothingPacked")
 what_members source event NoEventId = unnamed_members source event
 what_members source event (NearMiss field text) = near_members source event (field_name field) text
 what_members source event (OtherPlace place address) = other_members source event (place_name place) address

@@ -4,7 +4,7 @@ ghost use Rattle.std.specs.Prelude.{◌≡◌, ◌++◌, false, IfOk, OnOk, stri
 ghost use Rattle.serde_json.specs.Data.{object};
 ghost use Rattle.serde_json.specs.View.{view};
 ghost use Rattle.serde_json.specs.Written.{has_float};
-ghost use Rattle.document_lint.specs.Lines.{aimless_members, fault_members, finding_json, finding_line, json_line, lint_json, near_members, other_members, outside_members, skipped_members, unnamed_members};
+ghost use Rattle.document_lint.specs.Lines.{fault_members, field_members, finding_json, finding_line, json_line, lint_json, near_members, other_members, outside_members, skipped_members, spelling_members, unnamed_members};
 
 use crate::findings::{Finding, Lint, What};
 use serde_json::{Value, json};
@@ -60,8 +60,13 @@ fn finding_json(alloc: Global, source: &str, finding: &Finding) -> Result<Value,
     match &finding.what {
         What::Fault { field, kind } => fault_json(alloc, event, kind.name(), field.name(), source),
         What::Skipped(skipped) => skipped_json(alloc, event, source, skipped.name()),
-        What::ShipsNowhere => aimless_json(alloc, event, source),
+        What::ShipsNowhere => field_json(alloc, event, "destinationList", source, "ShipsNowhere"),
         What::Outside(place) => outside_json(alloc, place.as_str(), event, source),
+        What::OtherSpelling { site, address } => {
+            spelling_json(alloc, address.as_str(), event, source, site.as_str())
+        }
+        What::NotShipped => field_json(alloc, event, "destinationList", source, "NotShipped"),
+        What::NothingPacked => field_json(alloc, event, "childEPCs", source, "NothingPacked"),
         What::NoEventId => unnamed_json(alloc, event, source),
         What::NearMiss { field, text } => {
             near_json(alloc, event, field.name(), source, text.as_str())
@@ -91,16 +96,36 @@ fn skipped_json(alloc: Global, event: u64, source: &str, skipped: &str) -> Resul
     json!(in alloc; {"event": event, "file": source, "type": skipped, "warning": "Skipped"})
 }
 
-fn aimless_json(alloc: Global, event: u64, source: &str) -> Result<Value, AllocError>
-    ensures { IfOk result (λ v. view v ≡ object (aimless_members source.now event)) }
+fn field_json(
+    alloc: Global,
+    event: u64,
+    field: &str,
+    source: &str,
+    warning: &str,
+) -> Result<Value, AllocError>
+    ensures { IfOk result (λ v. view v
+        ≡ object (field_members source.now event field.now warning.now)) }
 {
-    json!(in alloc; {"event": event, "field": "destinationList", "file": source, "warning": "ShipsNowhere"})
+    json!(in alloc; {"event": event, "field": field, "file": source, "warning": warning})
 }
 
 fn outside_json(alloc: Global, place: &str, event: u64, source: &str) -> Result<Value, AllocError>
     ensures { IfOk result (λ v. view v ≡ object (outside_members source.now event place.now)) }
 {
     json!(in alloc; {"address": place, "event": event, "field": "destinationList", "file": source, "warning": "Outside"})
+}
+
+fn spelling_json(
+    alloc: Global,
+    address: &str,
+    event: u64,
+    source: &str,
+    site: &str,
+) -> Result<Value, AllocError>
+    ensures { IfOk result (λ v. view v
+        ≡ object (spelling_members source.now event address.now site.now)) }
+{
+    json!(in alloc; {"address": address, "event": event, "field": "destinationList", "file": source, "site": site, "warning": "OtherSpelling"})
 }
 
 fn unnamed_json(alloc: Global, event: u64, source: &str) -> Result<Value, AllocError>

@@ -73,6 +73,26 @@ fn what_words(alloc: Global, event: u64, what: &What) -> Result<String, AllocErr
             let words = named_at(alloc, "warn", "Outside", event, DocField::DestinationList)?;
             with_word(words, place.as_str())
         }
+        What::OtherSpelling { site, address } => {
+            let words = named_at(
+                alloc,
+                "warn",
+                "OtherSpelling",
+                event,
+                DocField::DestinationList,
+            )?;
+            with_word(with_word(words, address.as_str())?, site.as_str())
+        }
+        What::NotShipped => named_at(
+            alloc,
+            "warn",
+            "NotShipped",
+            event,
+            DocField::DestinationList,
+        ),
+        What::NothingPacked => {
+            named_at(alloc, "warn", "NothingPacked", event, DocField::ChildEpcs)
+        }
         What::NoEventId => named(alloc, "warn", "NoEventID", event),
         What::NearMiss { field, text } => {
             let words = named_at(alloc, "warn", "NearMiss", event, *field)?;

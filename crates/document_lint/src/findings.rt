@@ -30,10 +30,22 @@ pub enum What {
     },
     /// The event is skipped, being of a type that isn't traced.
     Skipped(SkippedType),
-    /// An ObjectEvent of the business step shipping has no destination, so that nothing is traced past it.
+    /// An ObjectEvent of a business step with which goods leave, `shipping`, `departing` or `consigning`, has no
+    /// destination, so that nothing is traced past it.
     ShipsNowhere,
-    /// Goods were shipped to this place, which is no traced site.
+    /// Goods were shipped to this place, which is no traced site, and at the location of none by its GLN.
     Outside(PlainText),
+    /// Goods were shipped to this text, which is no address of a traced site, but names by its GLN the location of an
+    /// address of this one, so that it may be another spelling of that. It is found in place of `Outside`.
+    OtherSpelling {
+        site: PlainText,
+        address: PlainText,
+    },
+    /// An AggregationEvent or a TransformationEvent has destinations. Only an ObjectEvent ships, so that its goods are
+    /// traced to none of them.
+    NotShipped,
+    /// An AggregationEvent with the action ADD has no children, so that nothing is traced into its parent.
+    NothingPacked,
     /// The event has no eventID, so that it counts again where it is captured again.
     NoEventId,
     /// The text of an item begins as that of an SGTIN or an SSCC does and breaks a rule of these, so that it is taken

@@ -8,11 +8,14 @@ mod finding_texts;
 mod findings;
 pub mod laws;
 mod linting;
+mod locations;
+mod lost_goods;
 mod near_misses;
 mod other_places;
 mod splitting;
 mod strange_events;
 mod totals;
+mod unlisted;
 
 pub use findings::{Finding, Lint, Listing, PlaceMember, SkippedType, What};
 pub use linting::lint_document;

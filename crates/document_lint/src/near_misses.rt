@@ -57,7 +57,7 @@ fn is_number_link(text: &str) -> bool
 }
 
 /// What is behind the scheme of a link, `https` or `http`.
-fn behind_scheme(text: &str) -> Option<&str>
+pub(crate) fn behind_scheme(text: &str) -> Option<&str>
     ensures { option_map (λ t. t.now) result ≡ behind_scheme text.now }
 {
     match text.strip_prefix("https://") {
@@ -67,7 +67,7 @@ fn behind_scheme(text: &str) -> Option<&str>
 }
 
 /// What is behind the host of a link.
-fn path_of(rest: &str) -> Option<&str>
+pub(crate) fn path_of(rest: &str) -> Option<&str>
     ensures { option_map (λ t. t.now) result ≡ path_of rest.now }
 {
     let (_, path) = rest.split_once('/')?;

@@ -1,19 +1,17 @@
 //! What is strange about an event that is read: that nothing is traced past it, or that it is probably not meant so.
 
-ghost use Rattle.std.specs.Prelude.{◌≡◌, ◌++◌, OnOk, map};
+ghost use Rattle.std.specs.Prelude.{◌≡◌, ◌++◌, OnOk};
 ghost use Rattle.serde_json.specs.View.{view};
-ghost use Rattle.event_json.specs.Members.{list_of, member_of};
-ghost use Rattle.event_json.specs.declared.doc_faults.DocField.TheVariants as fields;
-ghost use Rattle.event_json.specs.Untraced.{is_aimless, is_empty_list, is_shipping, outside_of};
-ghost use Rattle.document_lint.specs.Findings.{near, nears, nears_of, skipped_type, strange};
-ghost use Rattle.document_lint.specs.declared.findings.What.TheVariants.{Outside};
+ghost use Rattle.document_lint.specs.Findings.{losses, near, nears, nears_of, skipped_type, strange};
 
-use crate::event_lists::{member_named, type_text};
+use crate::event_lists::type_text;
 use crate::findings::{Listing, SkippedType, What};
+use crate::lost_goods::{is_unshipped, packs_nothing, ships_nowhere};
 use crate::near_misses::near_text;
 use crate::other_places::push_other_places;
+use crate::unlisted::push_unlisted;
 use epc_core::Epc;
-use event_json::{Body, DocField, Event, PlainText};
+use event_json::{Body, DocField, Event, PlainText, Sites};
 use serde_json::Value;
 use std::alloc::{AllocError, Global};
 
@@ -39,10 +37,7 @@ pub(crate) fn push_strange(
         ≡ found.old.items ++ strange listing.now.sites.now listing.now.here
         (view value.now) event.now) }
 {
-    if is_aimless(value) {
-        found.push(What::ShipsNowhere)?;
-    }
-    push_outside(alloc, found, event.body())?;
+    push_losses(alloc, found, listing.sites, value, event.body())?;
     if event.id().is_none() {
         found.push(What::NoEventId)?;
     }
@@ -50,75 +45,26 @@ pub(crate) fn push_strange(
     push_other_places(alloc, found, listing, value)
 }
 
-/// Whether a business step is shipping.
-#[tactic(auto, unfolding(event_json::specs::Untraced::is_shipping))]
-fn is_shipping(step: &str) -> bool
-    ensures { result ≡ is_shipping step.now }
+/// Adds what loses the goods of an event to a trace.
+fn push_losses(
+    alloc: Global,
+    found: &mut Vec<What>,
+    sites: &Sites,
+    value: &Value,
+    body: &Body,
+) -> Result<(), AllocError>
+    ensures { OnOk result (found.new.items
+        ≡ found.old.items ++ losses sites.now (view value.now) body.now) }
 {
-    step == "shipping"
-        || step == "urn:epcglobal:cbv:bizstep:shipping"
-        || step == "https://ref.gs1.org/cbv/BizStep-shipping"
-}
-
-/// Whether an event is an ObjectEvent that ships without a destination.
-#[tactic(auto, unfolding(event_json::specs::Untraced::is_aimless))]
-fn is_aimless(value: &Value) -> bool
-    ensures { result ≡ is_aimless (view value.now) }
-{
-    let Some(text) = type_text(value) else {
-        return false;
-    };
-    let Some(step) = member_named(value, "bizStep").and_then(Value::as_str) else {
-        return false;
-    };
-    text == "ObjectEvent" && is_shipping(step) && has_no_destination(value)
-}
-
-/// Whether an event has no destinations, in a list that is one.
-#[tactic(auto, using(event_json::proofs::Lists::items_count))]
-fn has_no_destination(value: &Value) -> bool
-    ensures { result ≡ is_empty_list (list_of fields.DestinationList
-        (member_of fields.DestinationList (view value.now))) }
-{
-    match member_named(value, "destinationList") {
-        None => true,
-        Some(list) => match list.as_array() {
-            Some(list) => list.is_empty(),
-            None => false,
-        },
+    if ships_nowhere(value, body) {
+        found.push(What::ShipsNowhere)?;
     }
-}
-
-/// Adds each place outside that an event ships to.
-fn push_outside(alloc: Global, found: &mut Vec<What>, body: &Body) -> Result<(), AllocError>
-    ensures { OnOk result (found.new.items ≡ found.old.items ++ map Outside (outside_of body.now)) }
-{
-    match body {
-        Body::Ship {
-            items: _,
-            sites: _,
-            outside,
-        } => push_places(alloc, found, outside.as_slice()),
-        Body::Note { items: _ } => Ok(()),
-        Body::Make {
-            id: _,
-            ins: _,
-            outs: _,
-        } => Ok(()),
-        Body::Pack {
-            action: _,
-            parent: _,
-            children: _,
-        } => Ok(()),
+    push_unlisted(alloc, found, sites, body)?;
+    if is_unshipped(value, body) {
+        found.push(What::NotShipped)?;
     }
-}
-
-/// Adds each of these places.
-fn push_places(alloc: Global, found: &mut Vec<What>, places: &[PlainText]) -> Result<(), AllocError>
-    ensures { OnOk result (found.new.items ≡ found.old.items ++ map Outside places.now) }
-{
-    for place in places {
-        found.push(What::Outside(place.copy(alloc)?))?;
+    if packs_nothing(body) {
+        found.push(What::NothingPacked)?;
     }
     Ok(())
 }
