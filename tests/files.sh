@@ -78,7 +78,7 @@ wants 0 'recall plant#1 new 4 messages 2 open' '' start chain plant "$tank"
 
 echo "refusals"
 wants 1 'refused UnknownRecall' '' report chain 'dairy#9'
-[ "$(cat err)" = '`recall audit` lists the recalls that sites began' ] || { echo "the sentence: $(cat err)" >&2; failed=1; }
+[ "$(cat err)" = '`recall status` lists the recalls that sites began' ] || { echo "the sentence: $(cat err)" >&2; failed=1; }
 wants 1 'refused BadLine' '' report chain dairy
 wants 1 'refused NoSite farm' '' report chain 'farm#1'
 wants 1 'refused NoSite farm' '' capture chain farm none

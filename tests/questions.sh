@@ -3,13 +3,14 @@
 # which knows the events that were captured and nothing of how `recall` works:
 # - trace, forward and back, of each item at each site of small random chains with shipments, pallets and transformations in
 #   parts: the pairs, that each way is a shortest one, origins, what left the traced sites, --brief, and --events: the first
-#   events that relate the pairs of each step; and what of the items is missed;
+#   events that relate the pairs of each step; and what of the items is missed, and how many lie in the one that is traced;
 # - packs: the events by which sites close packed gaps; and, on a copy, that none is left once they are captured, and that a trace finds
 #   then what it misses before;
 # - gaps: containers that a site shipped on and others packed, what was used without what lies in it, and what nobody saw come;
-# - items, of each site: which there are, how often they are named, and those that contain a text;
+# - items, of each site: which there are, how often they are named, and those that contain a text; and what lies in each;
+# - coverage: how many events and items each site has, and when the first and the last of its events happened;
 # - status and audit while a recall is open and once it has ended, with --exit-code; a report beside a trace of its root;
-# - what a run says that open recalls miss, and that it is withheld for that with --unless-gaps;
+# - what a run says that open recalls miss, and that it is withheld for that with --unless-gaps; and what an audit says that recalls miss;
 # - start --dry-run, which tells what the start then does. No question changes a byte of a file.
 # Run by hand, and by the gate on the program that it built. RECALL names another program. CHAINS is how many chains are made, 6
 # where it isn't set. It ends with status 0 where all is as it should be.
@@ -44,6 +45,7 @@ SITES = ["north", "east-1", "south_2"]
 answers = 0
 beside = ""
 asked = collections.Counter()
+begun = collections.defaultdict(list)
 
 
 def ask(*words, status=0):
@@ -251,6 +253,46 @@ def hold_missed(what, pairs, missed):
     same(f"{what}: what is missed", told, [f"missed {counts[site]} at {site}" for site in SITES if counts[site]])
 
 
+def lying_in(events, item):
+    """What any site put into the item, and into that."""
+    edges = set().union(*map(packed, events.values()))
+    return closed({child for parent, child in edges if parent == item}, edges)
+
+
+def hold_inside(what, events, item):
+    """On the error stream stands how many items lie in this one."""
+    count = len(lying_in(events, item))
+    told = [line for line in beside.splitlines() if line.startswith("inside ")]
+    same(f"{what}: what lies in it", told, [f"inside {count}"] if count else [])
+
+
+def contents(folder, events):
+    """What lies in each item that a site knows."""
+    for site in SITES:
+        counts = collections.Counter(itertools.chain.from_iterable(map(names, events[site])))
+        for item in sorted(counts):
+            lie = sorted(map(key, lying_in(events, item)))
+            for text in ("", "x1"):
+                told = [it for it in lie if text in it]
+                wanted = [f"item {site} {it} events {counts[it[4:]]}" for it in told] + [f"total {len(told)}"]
+                given = ["--in", item] if text else ["--in", key(item), "--key"]
+                same(f"items {site} {text} --in {item}", ask("items", folder, site, *([text] if text else []), *given).splitlines(), wanted)
+        same("an unknown item", ask("items", folder, site, "--in", "x99", status=1), "refused UnknownItem\n")
+        same("no EPC", ask("items", folder, site, "--in", "x 1", status=1), "refused BadEpc\n")
+    same("a site that isn't listed", ask("items", folder, "west", "--in", "x1", status=1), "refused NoSite west\n")
+
+
+def coverage(folder, events):
+    wanted = []
+    for site in SITES:
+        times = sorted(time_of(f"{site}-{n}") for n in range(len(events[site])))
+        known = set().union(set(), *map(names, events[site]))
+        wanted.append({"events": len(times), "first": times[0] if times else None, "items": len(known), "last": times[-1] if times else None, "site": site})
+    lines = [f"site {it['site']} events {it['events']} items {it['items']} first {it['first'] or '-'} last {it['last'] or '-'}" for it in wanted]
+    same(f"coverage {folder}", ask("coverage", folder).splitlines(), lines)
+    same(f"coverage {folder} --json", [json.loads(line) for line in ask("coverage", folder, "--json").splitlines()], wanted)
+
+
 def relate(events, known=None):
     """What each pair is related to, and what was shipped out of the traced sites: by the sites' own packings, or by what is known of packings."""
     related, out = collections.defaultdict(set), set()
@@ -399,6 +441,7 @@ def trace(folder, events):
             head, ways, rest = read_trace(text)
             wanted = steps(related, root)
             hold_missed(what, wanted, missed)
+            hold_inside(what, events, item)
             same(f"{what}: head", head, ("forward", root))
             hold_ways(what, ways, wanted, related, False)
             left = [["outside", s, "uri", i, d] for s, i, d in sorted(out, key=lambda it: (SITES.index(it[0]), key(it[1]), it[2])) if (s, i) in wanted]
@@ -470,8 +513,10 @@ def recall_one(folder, events, site, item):
     """A recall, from what its start would do to its end."""
     before = fingerprint(folder)
     would = ask("start", folder, site, item, "--dry-run").split()
+    hold_inside("a dry start", {site: events[site]}, item)
     same("a dry start", fingerprint(folder), before)
     did = ask("start", folder, site, item).split()
+    hold_inside("a start", {site: events[site]}, item)
     same("what the start would do", would[2:6], did[2:6])
     recall = did[1]
     state, quarantined, waiting, messages = hold_detail(folder, recall)
@@ -499,8 +544,12 @@ def recall_one(folder, events, site, item):
             break
     same("the end", hold_detail(folder, recall)[0::2], ("ended", 0))
     ask("run", folder, "--exit-code")
+    begun[folder].append((site, item))
+    ask("audit", folder)
+    hold_missed("an audit", set().union(*(steps(relate(events)[0], root) for root in begun[folder])), missed)
     report = ask("report", folder, recall).splitlines()
     hold_missed(f"report {recall}", steps(relate(events)[0], (site, item)), find_gaps(events)[3])
+    hold_inside(f"report {recall}", events, item)
     traced = ask("trace", folder, site, item).splitlines()
     same("a report and a trace", report[1:], traced[1:])
     same("a report and a trace --brief", ask("report", folder, recall, "--brief").splitlines()[1:], ask("trace", folder, site, item, "--brief").splitlines()[1:])
@@ -524,6 +573,8 @@ for number in range(int(os.environ["CHAINS"])):
     trace(folder, events)
     gaps(folder, events)
     packs(folder, events)
+    contents(folder, events)
+    coverage(folder, events)
     list_items(folder, events, set())
     same("files after questions", fingerprint(folder), before)
     held = set()

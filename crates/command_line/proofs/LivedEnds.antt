@@ -31,7 +31,7 @@ use Rattle.command_line.specs.Packs.{Finds}
 use Rattle.command_line.specs.Lives.{AreActsOfSites, LeadByActs}
 use Rattle.command_line.specs.declared.asked.Batch.{Batch}
 use Rattle.command_line.specs.declared.asked.FileCommand.{FileCommand}
-use Rattle.command_line.specs.declared.asked.FileCommand.TheVariants.{Init, Capture, Start, Run, Report, Audit, Trace, Recalls, Recall as OneRecall, Items, Gaps}
+use Rattle.command_line.specs.declared.asked.FileCommand.TheVariants.{Init, Capture, Start, Run, Report, Audit, Trace, Recalls, Recall as OneRecall, Items, Inside, Coverage, Gaps}
 use Rattle.command_line.specs.declared.convert_commands.ConvertFiles.{ConvertFiles}
 use Rattle.command_line.specs.declared.lint_commands.LintFiles.{LintFiles}
 use Rattle.command_line.specs.declared.pack_commands.PackFiles.{PackFiles}
@@ -122,7 +122,7 @@ module _ {K : Type 0} (shown : K → Option Record) (may : K → Record → Type
     leads_acts (Capture f site file) output calls leads = λ sites old new many continued left. captured shown may opens stored f.now sites old new many calls continued left site.now file.now output leads
     leads_acts (Start f site item false) output calls leads = λ sites old new many continued left. started shown may opens stored f.now sites old new many calls continued left _ site.now item output leads
     leads_acts (Start f site item true) output calls leads =
-        asked_acts calls (asks_behind shown stored f.now _ _ (λ first its asks. after_asks shown stored f.now asks.0 (λ ss rest told. refused_or shown stored f.now told.1 (λ t. site_told shown stored f.now t.3))) output calls leads)
+        asked_acts calls (asks_behind shown stored f.now _ _ (λ first its asks. after_asks shown stored f.now asks (λ ss rest told. refused_or shown stored f.now told.1 (λ t. site_told shown stored f.now t.3))) output calls leads)
     leads_acts (Run f terms) output calls leads = λ sites old new many continued left. has_run shown may opens stored f.now sites old new many calls continued left knows failed terms output leads
     leads_acts (Report f recall ways events) output calls leads = asked_acts calls (after_asks shown stored f.now leads (λ ss rest told. refused_or shown stored f.now told.1 (λ t. all_told shown stored f.now t.2)))
     leads_acts (Audit f coded) output calls leads = asked_acts calls (after_asks shown stored f.now leads (λ ss rest told. refused_or shown stored f.now told.1 (λ t. all_told shown stored f.now t.2)))
@@ -131,6 +131,9 @@ module _ {K : Type 0} (shown : K → Option Record) (may : K → Record → Type
     leads_acts (Recalls f coded) output calls leads = asked_acts calls (after_asks shown stored f.now leads (λ ss rest told. refused_or shown stored f.now told.1 (λ t. all_told shown stored f.now t.2)))
     leads_acts (OneRecall f recall coded) output calls leads = asked_acts calls (after_asks shown stored f.now leads (λ ss rest told. refused_or shown stored f.now told.1 (λ t. all_told shown stored f.now t.2)))
     leads_acts (Items f site text) output calls leads = asked_acts calls (after_asks shown stored f.now leads.0 (λ ss rest told. refused_or shown stored f.now told.1 (λ t. site_told shown stored f.now t.3)))
+    leads_acts (Inside f site item text) output calls leads =
+        asked_acts calls (asks_behind shown stored f.now _ _ (λ first its asks. after_asks shown stored f.now asks.0 (λ ss rest told. refused_or shown stored f.now told.1 (λ t. all_told shown stored f.now t.2))) output calls leads)
+    leads_acts (Coverage f) output calls leads = asked_acts calls (after_asks shown stored f.now leads.0 (λ ss rest told. refused_or shown stored f.now told.1 (λ t. all_told shown stored f.now t.2)))
     leads_acts (Gaps f coded) output calls leads = asked_acts calls (after_asks shown stored f.now leads.0 (λ ss rest told. refused_or shown stored f.now told.1 (λ t. all_told shown stored f.now t.2)))
 
     fails_acts : (command : FileCommand) (fault : Fault) (calls : List (FileCall K)) → FailsBy shown failed may reopens gives_up stored command fault calls → AreActsOfSites shown may calls
@@ -146,6 +149,8 @@ module _ {K : Type 0} (shown : K → Option Record) (may : K → Record → Type
     fails_acts (Recalls f coded) fault calls fails = asked_acts calls fails.harmless
     fails_acts (OneRecall f recall coded) fault calls fails = asked_acts calls fails.harmless
     fails_acts (Items f site text) fault calls fails = asked_acts calls fails.harmless
+    fails_acts (Inside f site item text) fault calls fails = asked_acts calls fails.harmless
+    fails_acts (Coverage f) fault calls fails = asked_acts calls fails.harmless
     fails_acts (Gaps f coded) fault calls fails = asked_acts calls fails.harmless
 
   -- documents that are looked through

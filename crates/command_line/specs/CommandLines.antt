@@ -26,7 +26,7 @@ use Rattle.command_line.specs.declared.asked.Terms.{Terms}
 use Rattle.command_line.specs.declared.convert_commands.ConvertFiles.{ConvertFiles}
 use Rattle.command_line.specs.declared.lint_commands.LintFiles.{LintFiles}
 use Rattle.command_line.specs.declared.pack_commands.PackFiles.{PackFiles}
-use Rattle.command_line.specs.declared.asked.FileCommand.TheVariants.{Init, Capture, Start, Run, Report, Audit, Trace, Recalls, Recall, Items, Gaps}
+use Rattle.command_line.specs.declared.asked.FileCommand.TheVariants.{Init, Capture, Start, Run, Report, Audit, Trace, Recalls, Recall, Items, Inside, Coverage, Gaps}
 
 -- the words of a batch
 abbrev pub words_of : Batch → List (List ℕ)
@@ -154,12 +154,19 @@ trace =
 abbrev pub status : App
 status = with_rule (with_rule (on_folder (codes "status")) (new_rule (codes "recall"))) (flag (codes "exit-code"))
 
+abbrev pub coverage : App
+coverage = on_folder (codes "coverage")
+
 abbrev pub gaps : App
 gaps = with_rule (on_folder (codes "gaps")) (flag (codes "exit-code"))
 
+-- `--in epc`
+abbrev pub containing : Rule
+containing = record (new_rule (codes "in")) { long = Some (codes "in"); value_names = 1 }
+
 -- the text may be left out
 abbrev pub items : App
-items = with_rule (with_rule (on_folder (codes "items")) (required (codes "site"))) (new_rule (codes "text"))
+items = with_spellings (with_rule (with_rule (with_rule (on_folder (codes "items")) (required (codes "site"))) (new_rule (codes "text"))) containing)
 
 -- `--site name`
 abbrev pub capturing : Rule
@@ -189,7 +196,7 @@ abbrev pub versioned : App → App
 versioned a = record a { top = record a.top { has_version = true } }
 
 abbrev pub recall : App
-recall = with_command (with_command (with_command (with_command (with_command (with_command (with_command changing trace) status) items) lint) gaps) packs) convert where
+recall = with_command (with_command (with_command (with_command (with_command (with_command (with_command (with_command changing trace) status) items) lint) gaps) packs) convert) coverage where
   -- those that came first
   changing : App
   changing =
@@ -323,6 +330,11 @@ IsCommand (Recall folder recall coded) name rows =
     (name ≡ codes "status") × Gives rows (codes "dir") folder.now × Gives rows (codes "recall") recall.now × (IsTrue coded ↔ IsSet rows (codes "exit-code"))
 IsCommand (Items folder site text) name rows =
     (name ≡ codes "items") × Gives rows (codes "dir") folder.now × Gives rows (codes "site") site.now × GivesOrNone rows (codes "text") text.now
+    × (first_of (codes "in") rows ≡ None)
+IsCommand (Inside folder site item text) name rows =
+    (name ≡ codes "items") × Gives rows (codes "dir") folder.now × Gives rows (codes "site") site.now × GivesOrNone rows (codes "text") text.now
+    × Gives rows (codes "in") item.text.now × GivesSpelling rows item.spelling
+IsCommand (Coverage folder) name rows = (name ≡ codes "coverage") × Gives rows (codes "dir") folder.now
 IsCommand (Gaps folder coded) name rows = (name ≡ codes "gaps") × Gives rows (codes "dir") folder.now × (IsTrue coded ↔ IsSet rows (codes "exit-code"))
 
 -- documents are captured, or recalls started that aren't dry

@@ -12,13 +12,14 @@ use Rattle.recall_outcomes.specs.declared.outcomes.Outcome.{Outcome}
 use Rattle.recall_outcomes.specs.declared.outcomes.Output.{Output}
 use Rattle.recall_outcomes.specs.declared.outcomes.Ways.{Ways}
 use Rattle.site_core.specs.Records.{Record}
-use Rattle.site_core.specs.declared.inputs.SiteInput.TheVariants as inputs
 use Rattle.site_folders.specs.Faults.{EndsInVain}
 use Rattle.site_folders.specs.FileCalls.{FileCall}
 use Rattle.site_folders.specs.Questions.{AsksAll, AsksSite}
 use Rattle.site_folders.specs.Refusals.{IsNoSite}
 use Rattle.folder_questions.specs.Asked.{AsksItem, AsksRecall, RefusesItem, RefusesRecall}
 use Rattle.folder_questions.specs.Audits.{AnswersAudit}
+use Rattle.folder_questions.specs.Contents.{AnswersContents}
+use Rattle.folder_questions.specs.Coverage.{AnswersCoverage}
 use Rattle.folder_questions.specs.DryStarts.{AnswersDryStart}
 use Rattle.folder_questions.specs.Gaps.{AnswersGaps}
 use Rattle.folder_questions.specs.Reports.{AnswersReport}
@@ -30,7 +31,7 @@ use Rattle.folder_commands.specs.Runs.{RunFails, RunsAt}
 use Rattle.folder_commands.specs.Steps.{CaptureFails, CapturesAt, StartFails, StartsAt}
 use Rattle.command_line.specs.UnknownItems.{AndWho}
 use Rattle.command_line.specs.declared.asked.FileCommand.{FileCommand}
-use Rattle.command_line.specs.declared.asked.FileCommand.TheVariants.{Init, Capture, Start, Run, Report, Audit, Trace, Recalls, Recall as OneRecall, Items, Gaps}
+use Rattle.command_line.specs.declared.asked.FileCommand.TheVariants.{Init, Capture, Start, Run, Report, Audit, Trace, Recalls, Recall as OneRecall, Items, Inside, Coverage, Gaps}
 
 -- an outcome beside which nothing is noted
 abbrev pub Plainly : {K : Type 0} → (List Site → Outcome → List (FileCall K) → Type 0) → Output → List (FileCall K) → Type 0
@@ -73,18 +74,24 @@ module _ {K : Type 0} (shown : K → Option Record) (stored : K → Type 0) (fol
       (λ asked rs told. AnswersTrace rs asked.0 asked.1 back ways events told.0 told.1)
       output.sites (output.outcome, output.notes)
 
+  -- what each site captured, and from when to when
+  abbrev pub TellsCoverage : Output → List (FileCall K) → Type 0
+  TellsCoverage =
+      Plainly
+      (AsksAll {Q = ⊤} shown stored folder (λ sites outcome. ⊥) (λ sites asked. ⊤) (λ asked rs outcome. AnswersCoverage rs outcome))
+
   -- what sites tell nothing of that others packed, or sent them
   abbrev pub FindsGaps : Bool → Output → List (FileCall K) → Type 0
   FindsGaps coded =
       Plainly
       (AsksAll {Q = ⊤} shown stored folder (λ sites outcome. ⊥) (λ sites asked. ⊤) (λ asked rs outcome. AnswersGaps rs coded outcome))
 
-  -- what the start of a recall of the item would do at the site of a name
+  -- what the start of a recall of the item would do at the site of a name, and what lies in the item
   abbrev pub DryStarts : List ℕ → Spelled → Output → List (FileCall K) → Type 0
-  DryStarts name item =
-      Plainly
-      (AsksSite {Q = List ℕ} shown stored folder (λ sites outcome. RefusesItem name item sites outcome) (λ sites site key. AsksItem name item sites site key)
-      (λ key r outcome. AnswersDryStart r (inputs.Start key) outcome))
+  DryStarts name item output =
+      AsksSite {Q = List ℕ} {A = Outcome × Notes} shown stored folder (λ sites told. RefusesItem name item sites told.0 × (told.1 ≡ Nothing)) (λ sites site key. AsksItem name item sites site key)
+      (λ key r told. AnswersDryStart r key told.0 told.1)
+      output.sites (output.outcome, output.notes)
 
   -- which items the site of a name knows whose keys contain the text
   abbrev pub KnownItems : List ℕ → List ℕ → Output → List (FileCall K) → Type 0
@@ -93,6 +100,13 @@ module _ {K : Type 0} (shown : K → Option Record) (stored : K → Type 0) (fol
       (AsksSite {Q = ⊤} shown stored folder (λ sites outcome. (named sites name ≡ None) × IsNoSite name outcome)
       (λ sites site asked. named sites name ≡ Some site)
       (λ asked r outcome. AnswersItems text r outcome))
+
+  -- what lies in the item, at the site of a name, by the packings of all sites, whose keys contain the text
+  abbrev pub TellsContents : List ℕ → Spelled → List ℕ → Output → List (FileCall K) → Type 0
+  TellsContents name item text =
+      Plainly
+      (AsksAll {Q = ℕ × List ℕ} shown stored folder (λ sites outcome. RefusesItem name item sites outcome) (λ sites asked. AsksItem name item sites asked.0 asked.1)
+      (λ asked rs outcome. AnswersContents rs asked.0 asked.1 text outcome))
 
 -- ---- all commands
 
@@ -113,6 +127,9 @@ module _ {K : Type 0} (knows : List ℕ → List ℕ → Type 0) (shown : K → 
   LeadsTo (Recalls folder coded) output calls = AllStand shown stored folder.now coded output calls
   LeadsTo (OneRecall folder recall coded) output calls = OneStands shown stored folder.now recall.now coded output calls
   LeadsTo (Items folder site text) output calls = KnownItems shown stored folder.now site.now text.now output calls
+  LeadsTo (Inside folder site item text) output calls =
+      AndWho shown stored folder.now (record { site = site; item = item }) (TellsContents shown stored folder.now site.now item text.now) output calls
+  LeadsTo (Coverage folder) output calls = TellsCoverage shown stored folder.now output calls
   LeadsTo (Gaps folder coded) output calls = FindsGaps shown stored folder.now coded output calls
 
 module _ {K G : Type 0} (shown : K → Option Record) (failed : K → ℕ) (may : K → Record → Type 0) (reopens : K → Result K (Unopened K) → Type 0) (gives_up : G → ℕ → ℕ → Type 0) (stored : K → Type 0) where
@@ -129,4 +146,6 @@ module _ {K G : Type 0} (shown : K → Option Record) (failed : K → ℕ) (may 
   FailsBy (Recalls folder coded) fault calls = EndsInVain shown folder.now fault calls
   FailsBy (OneRecall folder recall coded) fault calls = EndsInVain shown folder.now fault calls
   FailsBy (Items folder site text) fault calls = EndsInVain shown folder.now fault calls
+  FailsBy (Inside folder site item text) fault calls = EndsInVain shown folder.now fault calls
+  FailsBy (Coverage folder) fault calls = EndsInVain shown folder.now fault calls
   FailsBy (Gaps folder coded) fault calls = EndsInVain shown folder.now fault calls

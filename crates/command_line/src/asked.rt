@@ -113,10 +113,21 @@ pub(crate) enum FileCommand<'a> {
         site: &'a str,
         text: &'a str,
     },
+    /// A site is asked for what lies in an item that it knows, and of which the key contains a text.
+    Inside {
+        folder: &'a str,
+        site: &'a str,
+        item: Spelled<'a>,
+        text: &'a str,
+    },
     /// All sites are audited, and perhaps for a status that tells that a recall is open.
     Audit {
         folder: &'a str,
         coded: bool,
+    },
+    /// It is asked what each site captured, and from when to when.
+    Coverage {
+        folder: &'a str,
     },
     /// It is asked for the gaps of what the sites captured, and perhaps for a status that tells that there are any.
     Gaps {

@@ -267,6 +267,8 @@ fn file_command<'a>(name: &str, given: &ArgMatches<'a>) -> Option<FileCommand<'a
     } else if name == "audit" {
         let coded = is_set(given, "exit-code");
         Some(FileCommand::Audit { folder, coded })
+    } else if name == "coverage" {
+        Some(FileCommand::Coverage { folder })
     } else if name == "gaps" {
         let coded = is_set(given, "exit-code");
         Some(FileCommand::Gaps { folder, coded })
@@ -313,10 +315,38 @@ fn site_command<'a>(name: &str, folder: &'a str, given: &ArgMatches<'a>) -> Opti
             events,
         })
     } else if name == "items" {
-        let text = text_of(given);
-        Some(FileCommand::Items { folder, site, text })
+        items_command(folder, site, given)
     } else {
         None
+    }
+}
+
+/// The command that asks for items: those that a site knows, or those that lie in one that it knows.
+fn items_command<'a>(
+    folder: &'a str,
+    site: &'a str,
+    given: &ArgMatches<'a>,
+) -> Option<FileCommand<'a>>
+    requires folder { Gives (rows_of (found_of given.now)) (codes "dir") folder.now }
+    requires site { Gives (rows_of (found_of given.now)) (codes "site") site.now }
+    ensures { IfSome result (λ c. IsCommand c (codes "items") (rows_of (found_of given.now))) }
+{
+    let text = text_of(given);
+    match given.get_str("in") {
+        Some(container) => {
+            let spelling = spelling_of(given)?;
+            let item = Spelled {
+                text: container,
+                spelling,
+            };
+            Some(FileCommand::Inside {
+                folder,
+                site,
+                item,
+                text,
+            })
+        }
+        None => Some(FileCommand::Items { folder, site, text }),
     }
 }
 

@@ -12,7 +12,8 @@ use crate::asked::FileCommand;
 use event_json::Sites;
 use folder_commands::{capture, init, run_sites, start};
 use folder_questions::{
-    Audit, DryStart, GapsOf, ItemsOf, KnowersOf, ReportOf, StatusOf, Statuses, TraceOf,
+    Audit, ContentsOf, CoverageOf, DryStart, GapsOf, ItemsOf, KnowersOf, ReportOf, StatusOf,
+    Statuses, TraceOf,
 };
 use item_spellings::Spelled;
 use keeper_core::SiteKeeper;
@@ -58,7 +59,7 @@ pub(crate) fn do_command<
         } => {
             let (site, item) = (*site, *item);
             let first = if *dry {
-                plain(ask_site(alloc, files, folder, &DryStart { site, item })?)
+                with_notes(ask_site(alloc, files, folder, &DryStart { site, item })?)
             } else {
                 start(alloc, files, folder, site, &item)?
             };
@@ -117,6 +118,20 @@ pub(crate) fn do_command<
         }
         FileCommand::Items { folder, site, text } => {
             Ok(plain(ask_site(alloc, files, folder, &ItemsOf { site, text })?))
+        }
+        FileCommand::Coverage { folder } => {
+            Ok(plain(ask(alloc, files, folder, &CoverageOf {})?))
+        }
+        FileCommand::Inside {
+            folder,
+            site,
+            item,
+            text,
+        } => {
+            let (site, item) = (*site, *item);
+            let question = ContentsOf { site, item, text };
+            let first = plain(ask(alloc, files, folder, &question)?);
+            Ok(with_knowers(alloc, files, folder, &KnowersOf { site, item }, first))
         }
         FileCommand::Gaps { folder, coded } => {
             let question = GapsOf { coded: *coded };

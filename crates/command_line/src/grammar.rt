@@ -2,7 +2,7 @@
 
 ghost use Rattle.std.specs.Prelude.{◌≡◌, false, IfOk, codes};
 ghost use Rattle.clap.specs.Words.{app_of, new_rule, rule_of};
-ghost use Rattle.command_line.specs.CommandLines.{audit, capture, capturing, convert, epcs, files, flag, folder, gaps, init, items, lint, max_bytes, on_folder, packs, recall, report, required, run, sim, start, status, trace, turns, wait};
+ghost use Rattle.command_line.specs.CommandLines.{audit, capture, capturing, containing, convert, coverage, epcs, files, flag, folder, gaps, init, items, lint, max_bytes, on_folder, packs, recall, report, required, run, sim, start, status, trace, turns, wait};
 
 use crate::helps;
 use clap::builder::ValueParser;
@@ -33,7 +33,8 @@ pub(crate) fn recall<'a>(alloc: Global) -> Result<Command<'a>, AllocError>
         .subcommand(lint(alloc)?)?
         .subcommand(gaps(alloc)?)?
         .subcommand(packs(alloc)?)?
-        .subcommand(convert(alloc)?)
+        .subcommand(convert(alloc)?)?
+        .subcommand(coverage(alloc)?)
 }
 
 /// An argument that has to be there.
@@ -400,6 +401,27 @@ fn packs<'a>(alloc: Global) -> Result<Command<'a>, AllocError>
     ))
 }
 
+fn coverage<'a>(alloc: Global) -> Result<Command<'a>, AllocError>
+    ensures { IfOk result (λ command. app_of command ≡ coverage) }
+{
+    on_folder(
+        alloc,
+        "coverage",
+        helps::COVERAGE_ABOUT,
+        helps::COVERAGE_EXAMPLE,
+    )
+}
+
+/// The item of which it is asked what lies in it.
+fn containing<'a>(alloc: Global) -> Arg<'a>
+    ensures rule { rule_of result ≡ containing }
+    ensures local { result.global ≡ false }
+{
+    Arg::new(alloc, "in").long("in").value_name("epc").help(
+        "List what lies in this item, by the packings of all sites",
+    )
+}
+
 fn items<'a>(alloc: Global) -> Result<Command<'a>, AllocError>
     ensures { IfOk result (λ command. app_of command ≡ items) }
 {
@@ -409,7 +431,10 @@ fn items<'a>(alloc: Global) -> Result<Command<'a>, AllocError>
             alloc,
             "text",
             "What an item contains as it is printed, as the end of its serial",
-        ))
+        ))?
+        .arg(containing(alloc))?
+        .arg(key(alloc))?
+        .arg(scan(alloc))
 }
 
 fn lint<'a>(alloc: Global) -> Result<Command<'a>, AllocError>

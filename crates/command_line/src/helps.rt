@@ -63,8 +63,10 @@ Questions that change nothing:
   recall trace chain dairy <epc> --back          where it came from
   recall status chain                            how each recall stands, and what it waits for
   recall items chain dairy 400                   the items of a site, found by a part of their text
+  recall items chain dairy --in <epc>            what lies in an item, by the packings of all sites
   recall gaps chain                              what sites shipped on that others packed, unseen by recalls
   recall packs chain --site dairy                the events that close these gaps, as documents to capture
+  recall coverage chain                          what each site captured, and from when to when
   recall lint sites.txt monday.json              all that is wrong in documents, before they are captured
   recall convert monday.json                     documents as others write them, as `capture --lines` takes them
 
@@ -261,13 +263,32 @@ pub(crate) const ITEMS_ABOUT: &str =
 
 pub(crate) const ITEMS_EXAMPLE: &str = "\
 Prints `item <site> <item> events <count>` for each item that contains the text as it is printed: an end of a
-serial number finds it. The count is of the events that name it. Without a text all items are listed.
+serial number finds it. The count is of the site's events that name it. Without a text all items are listed.
+
+With `--in` these are the items that lie in another one which the site knows, at any depth: that any site put
+there, whenever, whether or not they were taken out again. A recall of a container holds none of them, so
+start one of each.
 
 Examples:
   recall items chain dairy 400
   recall items chain dairy 'sgtin 00614141123452'
+  recall items chain dairy --in 'sscc 106141412345678908' --key
 
-Status: 0 done, 1 refused (NoSite: the folder lists no such site), 3 a fault.";
+Status: 0 done, 1 refused, 3 a fault. Refusals: NoSite (the folder lists no such site), and with `--in`
+BadEpc, BadKey, BadScan (the text is no item) and UnknownItem (the site doesn't know it).";
+
+pub(crate) const COVERAGE_ABOUT: &str = "Tells what each site captured, and from when to when";
+
+pub(crate) const COVERAGE_EXAMPLE: &str = "\
+Prints `site <name> events <n> items <n> first <time> last <time>` for each site: how many events it captured
+and how many items it knows, and when the first and the last of the events happened, in UTC; `-` where there
+is none. A site whose last event lies far behind the others' may lack documents, and a recall finds nothing
+in those.
+
+Example:
+  recall coverage chain
+
+Status: 0 done, 3 a fault.";
 
 pub(crate) const PACKS_ABOUT: &str =
     "Prints the packings by which sites close their packed gaps, as documents to capture";

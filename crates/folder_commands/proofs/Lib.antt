@@ -3,7 +3,6 @@ pub mod DocumentLemmas
 pub mod InputLemmas
 pub mod LintLemmas
 pub mod MakingLemmas
-pub mod MissingLemmas
 pub mod NoteLaws
 pub mod NoteLemmas
 pub mod RunLemmas

@@ -137,6 +137,7 @@ module _ {K : Type 0} (shown : K → Option Record) (failed : K → ℕ) (may : 
   ran_or_not (outcomes.Standing recalls coded) end answers = absurd answers
   ran_or_not (outcomes.Waiting detail coded) end answers = absurd answers
   ran_or_not (outcomes.Known site items) end answers = absurd answers
+  ran_or_not (outcomes.Covered sites) end answers = absurd answers
   ran_or_not (outcomes.WouldStart plan ended) end answers = absurd answers
   ran_or_not (outcomes.Audited recalls coded) end answers = absurd answers
   ran_or_not (outcomes.Gaps gaps coded) end answers = absurd answers

@@ -1,5 +1,5 @@
 -- a step of a site, and the commands that ask for one
-use Rattle.std.proofs.Common.{◌≡◌, ◌⊎◌, ℕ, List, [], ◌∷◌, inl, inr, refl, sym, subst, Option, Some, None, Result, Ok, Err}
+use Rattle.std.proofs.Common.{◌≡◌, ◌⊎◌, ℕ, List, [], ◌∷◌, inl, inr, refl, sym, subst, Option, Some, None, Result, Ok, Err, IfOk}
 use Rattle.std.specs.Prelude.{IsErr, IsErrAnd, MatchResult}
 use Rattle.event_json.specs.Sites.{Site, named}
 use Rattle.event_json.specs.Untraced.{text_untraced}
@@ -26,10 +26,11 @@ use Rattle.site_core.specs.declared.outcomes.Refusal.{Refusal}
 use Rattle.site_folders.specs.Faults.{EndsInVain, OpensInVain}
 use Rattle.site_folders.specs.FileCalls.{Calls, FileCall, Led, ReadFile}
 use Rattle.site_folders.specs.Lists.{AfterList, ListsSites}
+use Rattle.site_folders.specs.Missing.{CountsOwn}
 use Rattle.site_folders.specs.Refusals.{IsNoSite, IsRefusal, refusal_of}
 use Rattle.site_folders.proofs.CallsInTurn.{behind_list, led_so, led_then}
 use Rattle.site_folders.proofs.VainLemmas.{asks_first, lists_ask, none_asks, opens_behind, ran_out, vain_listed}
-use Rattle.folder_commands.specs.Steps.{AtSite, BreaksCapture, BreaksStart, BreaksStep, CaptureFails, CapturesAt, CapturesFile, FailsStep, IsUntraced, NotesDone, StartFails, StartsAt, StartsItem, Steps, StepsAt, TellsStep}
+use Rattle.folder_commands.specs.Steps.{AtSite, BreaksCapture, BreaksStart, BreaksStep, CaptureFails, CapturesAt, CapturesFile, FailsStep, IsUntraced, NotesDone, NotesStart, StartFails, StartsAt, StartsItem, Steps, StepsAt, TellsStep}
 
 -- ---- results
 
@@ -42,6 +43,12 @@ match_err (Err f) e P Q is h = subst Q (sym is) h
 pub match_so : {X E : Type 0} {P P' : X → Type 0} {Q Q' : E → Type 0} (r : Result X E) → ((x : X) → P x → P' x) → ((e : E) → Q e → Q' e) → MatchResult r P Q → MatchResult r P' Q'
 match_so (Ok x) f g h = f x h
 match_so (Err e) f g h = g e h
+
+-- what follows of an answer with a number that was counted
+pub counted_so : {D E A : Type 0} (P : D × ℕ → Type 0) (Q : E → Type 0) (C : ℕ → Type 0) (S : D × ℕ → Type 0) → ((r : D × ℕ) → P r → C r.1 → S r) → (result : Result (D × ℕ) E) (counted : Result ℕ A)
+    → MatchResult result P Q → IfOk result (λ r. counted ≡ Ok r.1) → IfOk counted C → IfOk result S
+counted_so P Q C S gives (Ok r) counted p is c = gives r p (subst (λ n. IfOk n C) is c)
+counted_so P Q C S gives (Err e) counted q is c = tt
 
 -- of one that is known
 pub err_of : {X E : Type 0} (P : X → Type 0) (Q : E → Type 0) (r : Result X E) (e : E) → r ≡ Err e → MatchResult r P Q → Q e
@@ -210,13 +217,14 @@ module _ {F K : Type 0} (does : F → FileCall K → F → Type 0) (shown : K �
       })
 
   -- the recall was started, or refused
-  pub start_done : (name : List ℕ) (text : Spelled) (old first new : F) (sites : List Site) (site : ℕ) (item : List ℕ) (done : Result Effects Refusal) (output : Output) → Led does old first (ListsSites folder sites)
-      → named sites name ≡ Some site → item_reading text ≡ Ok item → Led does first new (StepsAt shown stored folder sites site (Start item) done) → output.sites ≡ sites
-      → TellsStep done output.outcome → output.notes ≡ notes.Nothing → Led does old new (StartsAt shown stored folder name text output)
-  start_done name text old first new sites site item done output listed known read step same tells noted =
+  pub start_done : (name : List ℕ) (text : Spelled) (old first new : F) (sites : List Site) (site : ℕ) (item : List ℕ) (done : Result Effects Refusal) (inside : ℕ) (output : Output) → Led does old first (ListsSites folder sites)
+      → named sites name ≡ Some site → item_reading text ≡ Ok item
+      → Led does first new (λ calls. (at : StepsAt shown stored folder sites site (Start item) done calls) × CountsOwn at.before item inside) → output.sites ≡ sites
+      → TellsStep done output.outcome → NotesStart inside done output.notes → Led does old new (StartsAt shown stored folder name text output)
+  start_done name text old first new sites site item done inside output listed known read step same tells noted =
       at_some does folder name (λ ss. StartsItem shown stored folder ss (item_reading text)) output old first new sites site listed known same
       (led_so does first new
-      (λ calls at. subst (λ r. StartsItem shown stored folder sites r site output calls) (sym read) (record { done = done; steps = at; told = tells; noted = noted })) step)
+      (λ calls (at, counts). subst (λ r. StartsItem shown stored folder sites r site output calls) (sym read) (record { done = done; steps = at; told = tells; inside = inside; counts = counts; noted = noted })) step)
 
   -- or its text spells no item
   pub start_unspelled : (name : List ℕ) (text : Spelled) (old first : F) (sites : List Site) (site : ℕ) (why : SpellingFault) (outcome : Outcome) (output : Output) → Led does old first (ListsSites folder sites)

@@ -54,7 +54,7 @@ pub record AreOfSites (before after : List ℕ) (lists : List RunLog) : Type 0 w
 -- what open recalls miss, if they miss anything
 abbrev pub NotesMissed : List Pair → Notes → Type 0
 NotesMissed missed notes.Nothing = missed ≡ []
-NotesMissed missed (notes.Missed found) = (found.items ≡ missed) × (missed ≢ [])
+NotesMissed missed (notes.Missed found) = (found.pairs.items ≡ missed) × (missed ≢ []) × (found.inside ≡ 0)
 NotesMissed missed other = ⊥
 
 module _ (knows : List ℕ → List ℕ → Type 0) (folder : List ℕ) (sites : List Site) where

@@ -25,6 +25,7 @@ use Rattle.site_folders.specs.Faults.{EndsInVain}
 use Rattle.site_folders.specs.FileCalls.{FileCall, ClosedSite, ReadFile}
 use Rattle.site_folders.specs.Keepers.{KeepsSite, opens_site}
 use Rattle.site_folders.specs.Lists.{AfterList}
+use Rattle.site_folders.specs.Missing.{CountsOwn, NotesInside}
 use Rattle.site_folders.specs.Refusals.{IsNoSite, IsRefusal, refusal_of}
 
 -- ---- a step
@@ -59,6 +60,11 @@ abbrev pub IsUntraced : List Site → List ℕ → Result Effects Refusal → Un
 IsUntraced sites document (Ok effects) untraced = text_untraced sites document ≡ Ok untraced
 IsUntraced sites document (Err why) untraced = ⊤
 
+-- of a recall that was started it is noted how many items lie in its item, if any do, and of one that was refused nothing
+abbrev pub NotesStart : ℕ → Result Effects Refusal → Notes → Type 0
+NotesStart inside (Ok effects) noted = NotesInside inside noted
+NotesStart inside (Err why) noted = noted ≡ notes.Nothing
+
 -- ---- the commands
 
 module _ {K : Type 0} (shown : K → Option Record) (stored : K → Type 0) (folder : List ℕ) (sites : List Site) where
@@ -85,12 +91,14 @@ module _ {K : Type 0} (shown : K → Option Record) (stored : K → Type 0) (fol
     pub noted : NotesDone untraced done output.notes
     pub calls_are : calls ≡ ReadFile file document ∷ rest
 
-  -- a recall of the item was started, or refused
+  -- a recall of the item was started, or refused; it is noted what lies in the item, by the site's own packings
   pub record StartsRecall (item : List ℕ) (site : ℕ) (output : Output) (calls : List (FileCall K)) : Type 0 where
     pub done : Result Effects Refusal
     pub steps : StepsAt site (Start item) done calls
     pub told : TellsStep done output.outcome
-    pub noted : output.notes ≡ notes.Nothing
+    pub inside : ℕ
+    pub counts : CountsOwn steps.before item inside
+    pub noted : NotesStart inside done output.notes
 
   -- a text that spells no item is refused without a further call
   abbrev pub StartsItem : Result (List ℕ) SpellingFault → ℕ → Output → List (FileCall K) → Type 0

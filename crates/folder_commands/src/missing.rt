@@ -8,13 +8,11 @@ ghost use Rattle.site_recovery.specs.Checking.{records_at};
 ghost use Rattle.site_recovery.specs.FittingAt.{AreAllSites};
 ghost use Rattle.folder_commands.specs.Missing.{AreMissed};
 
-use gap_core::missed_among;
 use keeper_core::SiteKeeper;
 use site_core::SiteState;
-use site_folders::{open_records, open_roots};
-use site_recovery::captured;
+use site_folders::{missed_from, open_records, roots};
 use std::alloc::{AllocError, Global};
-use trace_core::{Pair, reach_from};
+use trace_core::Pair;
 
 /// What open recalls miss, by the records that keepers show.
 pub(crate) fn missed_before<K: SiteKeeper>(
@@ -29,19 +27,11 @@ pub(crate) fn missed_before<K: SiteKeeper>(
     missed_of(alloc, records.as_slice())
 }
 
-/// The items that open recalls reach and that sites sent on with something that others packed, each with its site; by
-/// site and item, each once. Where no recall is open, nothing is looked for.
+/// What open recalls miss, by these records.
 fn missed_of(alloc: Global, records: &[&SiteState]) -> Result<Vec<Pair>, AllocError>
     requires { AreAllSites (records_at records.now) }
     ensures { IfOk result (λ missed. AreMissed (records_at records.now) missed.items) }
 {
-    let roots = open_roots(alloc, records)?;
-    if roots.is_empty() {
-        return Ok(Vec::new(alloc));
-    }
-    let captured = captured(alloc, records)?;
-    let sites = captured.as_slice();
-    let reached = reach_from(alloc, sites, roots.as_slice())?;
-    let missed = missed_among(alloc, sites, reached.as_slice())?;
-    Ok(missed)
+    let roots = roots(alloc, records, false)?;
+    missed_from(alloc, records, roots.as_slice())
 }

@@ -6,7 +6,7 @@ ghost use Rattle.folder_commands.specs.Notes.{AreOfSites, EndsSo, NotesEnd, Note
 
 use event_json::{SiteNo, Sites};
 use keeper_core::SiteKeeper;
-use recall_outcomes::{Notes, RunNotes, StartedRecall, Stop, StopCause};
+use recall_outcomes::{MissedItems, Notes, RunNotes, StartedRecall, Stop, StopCause};
 use site_folders::{Files, file_path};
 use site_threads::RunLog;
 use std::alloc::{AllocError, Global};
@@ -151,7 +151,10 @@ fn missed_notes(missed: Vec<Pair>) -> Notes
     if missed.is_empty() {
         Notes::Nothing
     } else {
-        Notes::Missed(missed)
+        Notes::Missed(MissedItems {
+            pairs: missed,
+            inside: 0,
+        })
     }
 }
 

@@ -1,19 +1,24 @@
 //! `capture` and `start`: a step of one site.
 
-ghost use Rattle.std.specs.Prelude.{◌≡◌, ◌⊎◌, Err, IfErr, IfOk, IsErr, MatchResult, OnErr, None, Some};
+ghost use Rattle.std.specs.Prelude.{◌≡◌, ◌⊎◌, Err, IfErr, IfOk, IsErr, MatchResult, Ok, OnErr, None, Some};
 ghost use Rattle.keeper_core.specs.Keeping.{Rises};
 ghost use Rattle.site_core.specs.Records.{Record};
+ghost use Rattle.site_core.specs.declared.inputs.SiteInput.TheVariants.{Start};
 ghost use Rattle.site_folders.specs.Faults.{OpensInVain};
 ghost use Rattle.site_folders.specs.FileCalls.{Led};
-ghost use Rattle.folder_commands.specs.Steps.{BreaksStep, CaptureFails, CapturesAt, FailsStep, NotesDone, StartFails, StartsAt, Steps, StepsAt, TellsStep};
+ghost use Rattle.site_folders.specs.Missing.{CountsOwn};
+ghost use Rattle.folder_commands.specs.Steps.{BreaksStep, CaptureFails, CapturesAt, FailsStep, NotesDone, NotesStart, StartFails, StartsAt, Steps, StepsAt, TellsStep};
 
 use crate::untraced::untraced_of;
+use epc_core::Epc;
 use event_json::{Sequence, SiteNo, Sites, Untraced};
 use item_spellings::{Spelled, read_item};
 use keeper_core::{KeepFault, SiteKeeper};
 use recall_outcomes::{CommandRefusal, Fault, Notes, Outcome, Output};
 use site_core::{Effects, Refusal, SiteInput};
-use site_folders::{Files, no_site, open_site, refusal, sites_of, unspelled};
+use site_folders::{
+    Files, count_inside, inside_notes, no_site, open_site, refusal, sites_of, unspelled,
+};
 use std::alloc::{AllocError, Global};
 
 /// Captures the document in a file at a site of a folder. The notes of a captured document say what isn't traced; a
@@ -97,7 +102,8 @@ fn plain(sites: Sites, outcome: Outcome) -> Output
     }
 }
 
-/// Starts a recall of an item at a site of a folder.
+/// Starts a recall of an item at a site of a folder. The notes of one that was started say how many items lie in the item
+/// by the packings that the site captured: the recall holds none of them.
 ///
 /// # Errors
 /// In this order, each without a change: those of the folder's list, those of opening the site's file; and then those
@@ -123,14 +129,81 @@ pub fn start<K: SiteKeeper, F: Files<K>>(
     let read = read_item(alloc, item)?;
     match read {
         Ok(key) => {
-            let done = step_at(alloc, files, folder, &sites, number, SiteInput::Start(key))?;
+            let (done, inside) = start_at(alloc, files, folder, &sites, number, key)?;
+            let notes = noted_start(alloc, &done, inside);
             let outcome = told(alloc, done)?;
-            Ok(plain(sites, outcome))
+            Ok(Output {
+                sites,
+                outcome,
+                notes,
+            })
         }
         Err(fault) => {
             let outcome = unspelled(alloc, fault)?;
             Ok(plain(sites, outcome))
         }
+    }
+}
+
+/// What is noted of a recall that was started, of an item in which so many lie, or that was refused.
+fn noted_start(alloc: Global, done: &Result<Effects, Refusal>, inside: u64) -> Notes
+    ensures { NotesStart inside done.now result }
+{
+    match done {
+        Ok(_) => inside_notes(alloc, inside),
+        Err(_) => Notes::Nothing,
+    }
+}
+
+/// The start of a recall at the site that a file keeps, and how many items lie in its item by that site's packings.
+fn start_at<K: SiteKeeper, F: Files<K>>(
+    alloc: Global,
+    files: &mut F,
+    folder: &str,
+    sites: &Sites,
+    site: SiteNo,
+    item: Epc,
+) -> Result<(Result<Effects, Refusal>, u64), Fault>
+    ensures calls { IfOk result (λ r. Led F.does files.old files.new (λ calls.
+        (at : StepsAt K.shown K.stored folder.now sites.now site (Start item) r.0 calls)
+        × CountsOwn at.before item r.1)) }
+    ensures failed { IfErr result (λ fault. Led F.does files.old files.new (λ calls.
+        OpensInVain K.shown folder.now sites.now fault calls
+        ⊎ BreaksStep K.shown K.may K.failed K.stored folder.now sites.now site (Start item) fault
+        calls)) }
+{
+    let mut keeper = open_site(alloc, files, folder, sites, site)?;
+    let inside = inside_of(alloc, &keeper, &item);
+    let done = start_of(&mut keeper, item, inside);
+    files.close_site(keeper);
+    done
+}
+
+/// The start of a recall, where it could be counted what lies in its item.
+fn start_of<K: SiteKeeper>(
+    keeper: &mut K,
+    item: Epc,
+    inside: Result<u64, AllocError>,
+) -> Result<(Result<Effects, Refusal>, u64), Fault>
+    ensures answered { (old : Record) → K.shown keeper.old ≡ Some old
+        → MatchResult result (λ r. Steps old (Start item) (K.shown keeper.new) r.0)
+        (FailsStep old (Start item) (K.shown keeper.new) (K.may keeper.new)) }
+    ensures inside { IfOk result (λ r. inside ≡ Ok r.1) }
+    ensures cause { result ≡ Err Fault.Device → Rises (K.failed keeper.old) (K.failed keeper.new) }
+    ensures stored { K.stored keeper.old → K.stored keeper.new }
+{
+    let inside = inside?;
+    let done = step(keeper, SiteInput::Start(item))?;
+    Ok((done, inside))
+}
+
+/// How many items lie in one, by the packings of the record that a keeper shows.
+fn inside_of<K: SiteKeeper>(alloc: Global, keeper: &K, item: &Epc) -> Result<u64, AllocError>
+    ensures { (r : Record) → K.shown keeper.now ≡ Some r → IfOk result (CountsOwn r item.now) }
+{
+    match keeper.view() {
+        Some(state) => count_inside(alloc, state, item),
+        None => Ok(0),
     }
 }
 

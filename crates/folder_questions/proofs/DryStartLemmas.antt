@@ -9,13 +9,13 @@ use Rattle.site_core.specs.declared.outcomes.Effects.{Effects}
 use Rattle.site_core.specs.declared.outcomes.Effects.TheVariants as effects
 use Rattle.site_core.specs.declared.steps.Stepped.{Stepped}
 use Rattle.site_core.specs.declared.steps.Stepped.TheVariants.{Same, Next}
-use Rattle.folder_questions.specs.DryStarts.{AnswersDryStart, TellsStart, effects_of}
+use Rattle.folder_questions.specs.DryStarts.{AnswersStep, TellsStart, effects_of}
 
 module _ (r : Record) (input : SiteInput) where
-  of_effects : (after : Record) (e : Effects) (o : Outcome) → Does r input e after → TellsStart e o → AnswersDryStart r input o
+  of_effects : (after : Record) (e : Effects) (o : Outcome) → Does r input e after → TellsStart e o → AnswersStep r input o
   of_effects after (effects.Captured fresh known skipped) o does told = absurd told
   of_effects after (effects.Started recall quarantined numbered ended) o does told =
-      subst (AnswersDryStart r input) (sym told) (effects.Started recall quarantined numbered ended, after, does, refl)
+      subst (AnswersStep r input) (sym told) (effects.Started recall quarantined numbered ended, after, does, refl)
   of_effects after (effects.Received quarantined numbered owed) o does told = absurd told
   of_effects after effects.Repeat o does told = absurd told
   of_effects after effects.Stale o does told = absurd told
@@ -24,6 +24,6 @@ module _ (r : Record) (input : SiteInput) where
   of_effects after (effects.Ended recall) o does told = absurd told
 
   -- a step that tells of a start answers what the start would do
-  pub would_answer : (stepped : Stepped) (o : Outcome) → IsStepped r input stepped → TellsStart (effects_of stepped) o → AnswersDryStart r input o
+  pub would_answer : (stepped : Stepped) (o : Outcome) → IsStepped r input stepped → TellsStart (effects_of stepped) o → AnswersStep r input o
   would_answer (Same e) o is told = of_effects r e o is.0 told
   would_answer (Next after e) o is told = of_effects after e o is.0 told

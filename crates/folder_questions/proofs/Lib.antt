@@ -1,3 +1,6 @@
+mod ContentsLemmas
+mod CoverageLemmas
 mod DryStartLemmas
 mod KnowerLemmas
+mod NoneLemmas
 mod PackLemmas

@@ -1,17 +1,20 @@
 -- What it comes to when it is asked what the start of a recall would do.
-use Rattle.std.specs.Prelude.{◌≡◌}
+use Rattle.std.specs.Prelude.{◌≡◌, ℕ, List}
 use Rattle.keeper_core.specs.Keeping.{IsRefusedFor}
+use Rattle.recall_outcomes.specs.declared.notes.Notes.{Notes}
 use Rattle.recall_outcomes.specs.declared.outcomes.CommandRefusal.TheVariants.{Step}
 use Rattle.recall_outcomes.specs.declared.outcomes.Outcome.{Outcome}
 use Rattle.recall_outcomes.specs.declared.outcomes.Outcome.TheVariants.{WouldStart, Refused}
 use Rattle.site_core.specs.Records.{Record}
 use Rattle.site_core.specs.Steps.{Does}
 use Rattle.site_core.specs.declared.inputs.SiteInput.{SiteInput}
+use Rattle.site_core.specs.declared.inputs.SiteInput.TheVariants.{Start}
 use Rattle.site_core.specs.declared.outcomes.Effects.{Effects}
 use Rattle.site_core.specs.declared.outcomes.Effects.TheVariants.{Started}
 use Rattle.site_core.specs.declared.outcomes.Refusal.{Refusal}
 use Rattle.site_core.specs.declared.steps.Stepped.{Stepped}
 use Rattle.site_core.specs.declared.steps.Stepped.TheVariants.{Same, Next}
+use Rattle.site_folders.specs.Missing.{CountsOwn, NotesInside}
 use Rattle.site_folders.specs.Refusals.{IsRefusal}
 
 -- how many items a start quarantines, and how many messages it numbers
@@ -25,8 +28,12 @@ effects_of (Same effects) = effects
 effects_of (Next after effects) = effects
 
 -- The step would have these effects in the record; or it would be refused.
-abbrev pub AnswersDryStart : Record → SiteInput → Outcome → Type 0
-AnswersDryStart r input (WouldStart quarantined messages) =
+abbrev pub AnswersStep : Record → SiteInput → Outcome → Type 0
+AnswersStep r input (WouldStart quarantined messages) =
     (effects : Effects) × (after : Record) × Does r input effects after × TellsStart effects (WouldStart quarantined messages)
-AnswersDryStart r input (Refused whys) = (why : Refusal) × IsRefusedFor r input why × IsRefusal (Step why) (Refused whys)
-AnswersDryStart r input other = ⊥
+AnswersStep r input (Refused whys) = (why : Refusal) × IsRefusedFor r input why × IsRefusal (Step why) (Refused whys)
+AnswersStep r input other = ⊥
+
+-- So for the start of a recall of the item; and it is noted how many items lie in that, by the site's own packings.
+abbrev pub AnswersDryStart : Record → List ℕ → Outcome → Notes → Type 0
+AnswersDryStart r item outcome notes = AnswersStep r (Start item) outcome × (n : ℕ) × CountsOwn r item n × NotesInside n notes

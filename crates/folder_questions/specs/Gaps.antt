@@ -1,6 +1,7 @@
 -- What is told of gaps, and of what is missed by them.
-use Rattle.std.specs.Prelude.{◌≡◌, ◌≢◌, ◌↔◌, Bool, List, [], Contains}
+use Rattle.std.specs.Prelude.{◌≡◌, ◌≢◌, ◌↔◌, ◌⊎◌, ℕ, Bool, List, [], Contains, length}
 use Rattle.std.specs.List.Sorted.{IsStrictlySortedBy}
+use Rattle.gap_core.specs.Inside.{AreInside}
 use Rattle.gap_core.specs.Lines.{AreGapLines, AreUsedLines, items_in}
 use Rattle.gap_core.specs.Missed.{IsMissedPair}
 use Rattle.gap_core.specs.Unseen.{IsUnseen, unseen_item_cmp}
@@ -29,9 +30,18 @@ abbrev pub AnswersGaps : List Record → Bool → Outcome → Type 0
 AnswersGaps records coded (Gaps gaps told) = (told ≡ coded) × AreGapsOf (captured_of records) gaps
 AnswersGaps records coded other = ⊥
 
--- of the pairs just those are noted that are missed, in order and each once, and where there is none, nothing
-abbrev pub NotesMissed : List Record → List Pair → Notes → Type 0
-NotesMissed records pairs Nothing = (p : Pair) → Contains pairs p → IsMissedPair (captured_of records) p → ⊥
-NotesMissed records pairs (Missed found) =
-    (found.items ≢ []) × IsStrictlyAscending found.items × ((p : Pair) → Contains found.items p ↔ (Contains pairs p × IsMissedPair (captured_of records) p))
-NotesMissed records pairs other = ⊥
+-- just those of the pairs that are missed, in order and each once
+pub record AreMissedOf (records : List Record) (pairs found : List Pair) : Type 0 where
+  pub ascending : IsStrictlyAscending found
+  pub exact : (p : Pair) → Contains found p ↔ (Contains pairs p × IsMissedPair (captured_of records) p)
+
+-- so many items lie in it by the packings of all sites
+abbrev pub CountsInside : List Record → List ℕ → ℕ → Type 0
+CountsInside records item n = (items : List (List ℕ)) × AreInside (captured_of records) item items × (n ≡ length items)
+
+-- What is missed of the pairs, and how many items lie in the item, are noted, and where there is neither, nothing.
+abbrev pub NotesMissed : List Record → List Pair → List ℕ → Notes → Type 0
+NotesMissed records pairs item Nothing = AreMissedOf records pairs [] × CountsInside records item 0
+NotesMissed records pairs item (Missed found) =
+    AreMissedOf records pairs found.pairs.items × CountsInside records item found.inside × ((found.pairs.items ≢ []) ⊎ (found.inside ≢ 0))
+NotesMissed records pairs item other = ⊥

@@ -8,6 +8,7 @@ use Rattle.recall_outcomes.specs.declared.notes.Notes.TheVariants.{Nothing}
 use Rattle.recall_outcomes.specs.declared.outcomes.AuditedRecall.{AuditedRecall}
 use Rattle.recall_outcomes.specs.declared.outcomes.Outcome.TheVariants.{Audited, Traced}
 use Rattle.recall_outcomes.specs.declared.outcomes.Ways.{Ways}
+use Rattle.gap_core.specs.Inside.{LiesInside}
 use Rattle.report_core.specs.declared.traces.Trace.{Trace}
 use Rattle.report_core.specs.declared.trail_events.StepEvents.{StepEvents}
 use Rattle.site_core.specs.Records.{Record, IsSound}
@@ -37,8 +38,8 @@ AuditedRecallsCanEnd =
     → ((place : ℕ) (r : Record) → slice_get (records world) place ≡ Some r → HasNumbersFor recall r)
     → CanEnd recall root world
 
--- A trace beside which nothing is noted is of records that agree, and has just the pairs that the item reaches by all packings that are known at the sites; and of each
--- of them the item left for just those places outside for which it is known to have left.
+-- A trace beside which nothing is noted is of records that agree, and has just the pairs that the item reaches by all packings that are known at the sites; of each
+-- of them the item left for just those places outside for which it is known to have left; and no site put anything into the item.
 abbrev pub UnnotedTracesMissNothing : Type 0
 UnnotedTracesMissNothing =
     (records : List Record) (site : ℕ) (item : List ℕ) (ways : Ways) (events : Bool) (trace : Trace) (told : Ways) (behind : Option (Vec (List StepEvents) Global))
@@ -47,3 +48,4 @@ UnnotedTracesMissNothing =
     × ((p : Pair) → Contains trace.pairs p ↔ Reaches (WideRelated (captured_of records)) trace.root p)
     × ((s : SiteEvents) (i text : List ℕ) → Contains (captured_of records) s → Contains trace.pairs (record { site = s.me; item = i })
     → IsSent (by_known (captured_of records)) s i (inr text) ↔ IsSent by_own s i (inr text))
+    × ((i : List ℕ) → LiesInside (captured_of records) item i → ⊥)

@@ -1,6 +1,8 @@
 pub mod Asked
 pub mod Audits
 pub mod Beside
+pub mod Contents
+pub mod Coverage
 pub mod DryStarts
 pub mod Gaps
 pub mod Knowers

@@ -21,7 +21,7 @@ use Rattle.folder_questions.specs.TrailEvents.{TellsEvents, steps_to}
 abbrev pub AnswersReport : List Record → Recall → Ways → Bool → Outcome → Notes → Type 0
 AnswersReport records r ways events (Reported of report told behind) notes =
     (of ≡ r) × (told ≡ ways) × IsReport records r report × TellsEvents records events (steps_to ways) (map or_no_pairs report.trails) behind
-    × Beside records (NotesMissed records report.pairs) notes
+    × Beside records (NotesMissed records report.pairs report.root.item) notes
 AnswersReport records r ways events (Refused whys) notes =
     (own (world_of records) r.site r.number ≡ None) × IsRefusal UnknownRecall (Refused whys) × (notes ≡ Nothing)
 AnswersReport records r ways events other notes = ⊥

@@ -20,11 +20,11 @@ abbrev pub RefusesUnknown : List Record → ℕ → List ℕ → Outcome → Typ
 RefusesUnknown records site item outcome = (IsKnownAt (world_of records) site item → ⊥) × IsRefusal (Step UnknownItem) outcome
 
 -- The item at the site is traced to where it went, or back to where it came from, and its ways, and the events behind them, are told
--- as they were asked for; or the site doesn't know it. It is noted how the records contradict each other, and else, of where it went, what is missed.
+-- as they were asked for; or the site doesn't know it. It is noted how the records contradict each other, and else, of where it went, what is missed, and what lies in it.
 abbrev pub AnswersTrace : List Record → ℕ → List ℕ → Bool → Ways → Bool → Outcome → Notes → Type 0
 AnswersTrace records site item false ways events (Traced trace told behind) notes =
     (told ≡ ways) × IsTrace records site item trace × IsKnownAt (world_of records) site item × TellsEvents records events (steps_to ways) trace.trails behind
-    × Beside records (NotesMissed records trace.pairs) notes
+    × Beside records (NotesMissed records trace.pairs item) notes
 AnswersTrace records site item true ways events (TracedBack trace told behind) notes =
     (told ≡ ways) × IsBackTrace records site item trace × IsKnownAt (world_of records) site item × TellsEvents records events (steps_from ways) trace.trails behind
     × Beside records (λ noted. noted ≡ Nothing) notes

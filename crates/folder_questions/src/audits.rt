@@ -1,24 +1,25 @@
 //! `audit`: whether the records of the sites are consistent, whether each ended recall quarantined what it is to, and
-//! which sites the others wait at in vain.
+//! which sites the others wait at in vain; and what recalls miss.
 
 ghost use Rattle.std.specs.Prelude.{IfOk};
 ghost use Rattle.std.specs.List.{AllZip};
 ghost use Rattle.site_recovery.specs.Checking.{records_at};
 ghost use Rattle.site_recovery.specs.FittingAt.{AreAllSites};
 ghost use Rattle.site_folders.specs.Begun.{begun};
-ghost use Rattle.folder_questions.specs.Audits.{AuditsRecall, NotesStuck};
+ghost use Rattle.folder_questions.specs.Audits.{AuditsRecall, NotesAudit};
 
+use crate::gaps::are_none;
 use event_json::Sites;
 use query_core::stuck_recalls;
-use recall_outcomes::{AuditedRecall, Notes, Outcome, StartedRecall};
+use recall_outcomes::{AuditNotes, AuditedRecall, Notes, Outcome, StartedRecall};
 use report_core::{ReportFault, audit};
 use site_core::SiteState;
-use site_folders::{Question, begun};
+use site_folders::{Question, begun, missed_from, roots};
 use site_recovery::{CheckFault, check_world};
 use std::alloc::{AllocError, Global};
 
 /// Whether the records are consistent, and how the quarantine of each recall that ended compares with what it is to be;
-/// and beside that, at which sites a recall waits in vain.
+/// and beside that, at which sites a recall waits in vain, and what recalls miss.
 #[derive(Drop)]
 pub struct Audit {
     /// Whether the program's status tells that a recall is open.
@@ -39,7 +40,8 @@ impl Question for Audit {
 
     // The condition and the site of inconsistent records; or that they are consistent, with each recall that a site
     // began, one for one and in order: that it is open, or the verdict on it; and noted beside that, where there is
-    // any, each site that takes part in a recall without a message of it.
+    // any, each site that takes part in a recall without a message of it, and just what the roots of all recalls reach
+    // and miss.
     ghost answers = { λ q asked rs told. AnswersAudit rs q.coded told.0 told.1 };
 
     fn read(
@@ -62,7 +64,7 @@ impl Question for Audit {
                     recalls: audit_recalls(alloc, records)?,
                     coded: self.coded,
                 };
-                Ok((audited, stuck_notes(alloc, records)?))
+                Ok((audited, audit_notes(alloc, records)?))
             }
             Err(CheckFault::Misfit(misfit)) => {
                 Ok((Outcome::Inconsistent(misfit), Notes::Nothing))
@@ -72,15 +74,18 @@ impl Question for Audit {
     }
 }
 
-/// The sites that recalls wait at in vain, where there are any.
-fn stuck_notes(alloc: Global, records: &[&SiteState]) -> Result<Notes, AllocError>
-    ensures { IfOk result (NotesStuck (records_at records.now)) }
+/// The sites that recalls wait at in vain, and what recalls miss, where there is any.
+fn audit_notes(alloc: Global, records: &[&SiteState]) -> Result<Notes, AllocError>
+    requires all { AreAllSites (records_at records.now) }
+    ensures { IfOk result (NotesAudit (records_at records.now)) }
 {
     let stuck = stuck_recalls(alloc, records)?;
-    if stuck.is_empty() {
+    let roots = roots(alloc, records, true)?;
+    let missed = missed_from(alloc, records, roots.as_slice())?;
+    if are_none(missed.as_slice(), stuck.len()) {
         return Ok(Notes::Nothing);
     }
-    Ok(Notes::Stuck(stuck))
+    Ok(Notes::Audit(AuditNotes { stuck, missed }))
 }
 
 /// Audits each recall that a site began, by site, then by number.

@@ -8,25 +8,28 @@ ghost use Rattle.folder_questions.specs.Beside.{Beside, Contradict};
 ghost use Rattle.folder_questions.specs.Gaps.{NotesMissed};
 
 use crate::gaps::missed_notes;
+use epc_core::Epc;
 use recall_outcomes::Notes;
 use site_core::SiteState;
 use site_recovery::{CheckFault, Misfit, check_world};
 use std::alloc::{AllocError, Global};
 use trace_core::Pair;
 
-/// What is noted beside pairs: how the records contradict each other, and else those of the pairs that are missed.
+/// What is noted beside pairs that are told of an item: how the records contradict each other, and else those of the
+/// pairs that are missed, and how many items lie in the item.
 pub(crate) fn notes_beside(
     alloc: Global,
     records: &[&SiteState],
     pairs: &[Pair],
+    item: &Epc,
 ) -> Result<Notes, AllocError>
     requires all { AreAllSites (records_at records.now) }
     ensures { IfOk result (Beside (records_at records.now)
-        (NotesMissed (records_at records.now) pairs.now)) }
+        (NotesMissed (records_at records.now) pairs.now item.now)) }
 {
     match misfit_in(alloc, records)? {
         Some(misfit) => Ok(Notes::Misfit(misfit)),
-        None => missed_notes(alloc, records, pairs),
+        None => missed_notes(alloc, records, pairs, item),
     }
 }
 

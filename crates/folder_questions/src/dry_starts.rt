@@ -1,21 +1,23 @@
 //! `start --dry-run`: what the start of a recall would do at its site.
 
-ghost use Rattle.std.specs.Prelude.{◌≢◌, IfOk};
+ghost use Rattle.std.specs.Prelude.{◌≡◌, ◌≢◌, IfOk};
 ghost use Rattle.recall_outcomes.specs.declared.outcomes.CommandRefusal.TheVariants.{Step};
+ghost use Rattle.site_core.specs.declared.inputs.SiteInput.TheVariants.{Start};
 ghost use Rattle.site_folders.specs.Refusals.{IsRefusal};
-ghost use Rattle.folder_questions.specs.DryStarts.{TellsStart, effects_of};
+ghost use Rattle.folder_questions.specs.DryStarts.{AnswersStep, TellsStart, effects_of};
 
 use crate::asked::item_at;
 use epc_core::Epc;
 use event_json::{SiteNo, Sites};
 use item_spellings::Spelled;
-use recall_outcomes::{CommandRefusal, Outcome};
+use recall_outcomes::{CommandRefusal, Notes, Outcome};
 use site_core::{Effects, Refusal, SiteInput, SiteState, Stepped, step};
-use site_folders::{SiteQuestion, refusal};
+use site_folders::{SiteQuestion, count_inside, inside_notes, refusal};
 use std::alloc::{AllocError, Global};
 
 /// How many items of the site of a name the start of a recall would quarantine there, and how many messages it would
-/// have for other sites. The step is made on a copy of the record.
+/// have for other sites; and beside that, how many items lie in the one that would be recalled. The step is made on a copy
+/// of the record.
 #[derive(Drop)]
 pub struct DryStart<'a> {
     pub site: &'a str,
@@ -25,32 +27,50 @@ pub struct DryStart<'a> {
 impl SiteQuestion for DryStart<'_> {
     ghost use Rattle.folder_questions.specs.Asked.{AsksItem, RefusesItem};
     ghost use Rattle.folder_questions.specs.DryStarts.{AnswersDryStart};
-    ghost use Rattle.site_core.specs.declared.inputs.SiteInput.TheVariants.{Start};
+    ghost use Rattle.recall_outcomes.specs.declared.notes.Notes.TheVariants.{Nothing};
 
     type Asked = Epc;
 
-    type Answer = Outcome;
+    type Answer = (Outcome, Notes);
 
-    ghost refuses = { λ q sites outcome. RefusesItem q.site.now q.item sites outcome };
+    ghost refuses = { λ q sites told. RefusesItem q.site.now q.item sites told.0 × (told.1 ≡ Nothing) };
 
     ghost asks = { λ q sites site item. AsksItem q.site.now q.item sites site item };
 
-    // What the start of a recall of the item would do at the site.
-    ghost answers = { λ q item r outcome. AnswersDryStart r (Start item) outcome };
+    // What the start of a recall of the item would do at the site; and noted beside it how many items lie in that item
+    // by the site's own packings.
+    ghost answers = { λ q item r told. AnswersDryStart r item told.0 told.1 };
 
     fn read(
         &self,
         alloc: Global,
         sites: &Sites,
-    ) -> Result<Result<(SiteNo, Epc), Outcome>, AllocError> {
-        item_at(alloc, sites, self.site, &self.item)
+    ) -> Result<Result<(SiteNo, Epc), (Outcome, Notes)>, AllocError> {
+        match item_at(alloc, sites, self.site, &self.item)? {
+            Ok(asked) => Ok(Ok(asked)),
+            Err(refused) => Ok(Err((refused, Notes::Nothing))),
+        }
     }
 
-    fn answer(&self, alloc: Global, item: Epc, state: &SiteState) -> Result<Outcome, AllocError> {
-        match step(alloc, state, &SiteInput::Start(item)) {
-            Ok(stepped) => would_of(&stepped),
-            Err(why) => refused(alloc, why),
-        }
+    fn answer(
+        &self,
+        alloc: Global,
+        item: Epc,
+        state: &SiteState,
+    ) -> Result<(Outcome, Notes), AllocError> {
+        let inside = count_inside(alloc, state, &item)?;
+        let outcome = would_start(alloc, state, item)?;
+        Ok((outcome, inside_notes(alloc, inside)))
+    }
+}
+
+/// What the start of a recall would do.
+fn would_start(alloc: Global, state: &SiteState, item: Epc) -> Result<Outcome, AllocError>
+    ensures answered { IfOk result (AnswersStep state.now (Start item)) }
+{
+    match step(alloc, state, &SiteInput::Start(item)) {
+        Ok(stepped) => would_of(&stepped),
+        Err(why) => refused(alloc, why),
     }
 }
 

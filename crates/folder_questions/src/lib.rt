@@ -5,6 +5,8 @@
 mod asked;
 mod audits;
 mod beside;
+mod contents;
+mod coverage;
 mod dry_starts;
 mod gaps;
 mod knowers;
@@ -17,6 +19,8 @@ mod traces;
 mod trail_events;
 
 pub use audits::Audit;
+pub use contents::ContentsOf;
+pub use coverage::CoverageOf;
 pub use dry_starts::DryStart;
 pub use gaps::GapsOf;
 pub use knowers::KnowersOf;

@@ -42,7 +42,7 @@ impl Question for ReportOf<'_> {
 
     // The recall's report, where it is asked for with the events behind the steps that are told, and `UnknownRecall`
     // exactly where no site began the recall; and noted beside it how the records contradict each other, or, where
-    // they don't, just those of its pairs that are missed.
+    // they don't, just those of its pairs that are missed, and how many items lie in the recalled one.
     ghost answers = { λ q recall rs told.
         AnswersReport rs recall q.ways q.events told.0 told.1 };
 
@@ -65,7 +65,12 @@ impl Question for ReportOf<'_> {
     ) -> Result<(Outcome, Notes), AllocError> {
         match told_report(alloc, records, recall, self.ways, self.events) {
             Ok((report, events)) => {
-                let notes = notes_beside(alloc, records, report.pairs.as_slice())?;
+                let notes = notes_beside(
+                    alloc,
+                    records,
+                    report.pairs.as_slice(),
+                    &report.root.item,
+                )?;
                 let outcome = Outcome::Reported {
                     recall,
                     report,

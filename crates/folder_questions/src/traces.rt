@@ -25,7 +25,8 @@ use site_core::{Refusal, SiteState};
 use site_folders::{Question, refusal};
 use std::alloc::{AllocError, Global};
 
-/// Where an item at the site of a name went, or where it came from; and beside that, what is missed of where it went.
+/// Where an item at the site of a name went, or where it came from; and beside that, what is missed of where it went, and
+/// how many items lie in it.
 #[derive(Drop)]
 pub struct TraceOf<'a> {
     pub site: &'a str,
@@ -51,7 +52,7 @@ impl Question for TraceOf<'_> {
 
     // A trace of the item, forward or back, or `UnknownItem` exactly where the site doesn't know it; and noted beside it
     // how the records contradict each other, or, where they don't, of a trace forward just those of its pairs that are
-    // missed.
+    // missed, and how many items lie in the item.
     ghost answers = { λ q asked rs told.
         AnswersTrace rs asked.0 asked.1 q.back q.ways q.events told.0 told.1 };
 
@@ -96,7 +97,7 @@ fn forward_of(
 {
     match told_trace(alloc, records, site, item, ways, events) {
         Ok((trace, events)) => {
-            let notes = notes_beside(alloc, records, trace.pairs.as_slice())?;
+            let notes = notes_beside(alloc, records, trace.pairs.as_slice(), item)?;
             let outcome = Outcome::Traced {
                 trace,
                 ways,

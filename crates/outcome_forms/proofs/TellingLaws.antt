@@ -51,7 +51,7 @@ use Rattle.site_core.specs.declared.outcomes.Refusal.{Refusal}
 use Rattle.site_core.specs.declared.outcomes.Refusal.TheVariants as steps
 use Rattle.site_recovery.specs.declared.checking.Misfit.{Misfit}
 use Rattle.trace_core.specs.declared.pairs.Pair.{Pair}
-use Rattle.outcome_forms.specs.Json.{Shown, whole, before, behind, account_json, audited_json, beside_json, detail_json, effects_json, engaged_json, event_json, gaps_json, known_json, line_members, list_of, misfit_json, outcome_json, outside_json, packed_json, pair_json, part_json, ran_json, shown_members, shown_way, standing_json, status_json, step_json, step_members, text_or_null, titled_json, trail_json, unseen_json, used_json, verdict_json, waiting_json, why_json, with_events}
+use Rattle.outcome_forms.specs.Json.{Shown, whole, before, behind, account_json, audited_json, beside_json, covered_json, detail_json, effects_json, engaged_json, event_json, gaps_json, known_json, line_members, list_of, misfit_json, outcome_json, outside_json, packed_json, pair_json, part_json, ran_json, shown_members, shown_way, standing_json, status_json, step_json, step_members, text_or_null, titled_json, trail_json, unseen_json, used_json, verdict_json, waiting_json, why_json, with_events}
 use Rattle.outcome_forms.specs.Telling.{AccountIsOf, AreSameGaps, AuditedIsOf, DetailIsOf, EffectsAreOf, EndsSo, GapIsOf, GapsAreOf, MessageIsOf, OutsideIsOf, PairIsOf, PartIsOf, RecallIsOf, SomeIsOf, StandingIsOf, StepIsOf, TellsAccount, TellsWhy, TitleIsOf, UnseenIsOf, UsedIsOf, ValuesTellKinds, ValuesTellOutcomes, VerdictIsOf, WaitingIsOf, WhyIsOf, kind_of, shown_part}
 use Rattle.trace_core.specs.Trails.{before_last}
 use Rattle.report_forms.specs.Accounts.{Account, Part, way_pairs}
@@ -65,6 +65,7 @@ use Rattle.recall_outcomes.specs.declared.outcomes.CommandRefusal.TheVariants as
 use Rattle.recall_outcomes.specs.declared.outcomes.FoundGaps.{FoundGaps}
 use Rattle.recall_outcomes.specs.declared.outcomes.Outcome.{Outcome}
 use Rattle.recall_outcomes.specs.declared.outcomes.Outcome.TheVariants as outcomes
+use Rattle.recall_outcomes.specs.declared.outcomes.SiteCoverage.{SiteCoverage}
 use Rattle.recall_outcomes.specs.declared.outcomes.StartedRecall.{StartedRecall}
 use Rattle.recall_outcomes.specs.declared.outcomes.Ways.{Ways}
 use Rattle.recall_outcomes.specs.declared.outcomes.Ways.TheVariants.{Trails, Steps}
@@ -473,7 +474,13 @@ detail_tells sites are a b ha hb e =
     (ap₂ (λ xs ys. (xs, ys)) (listed_tell (StandingIsOf sites) (standing_json sites) (standing_tells sites are) a.sites b.sites ha.sites_told hb.sites_told (ap (at 5) e))
     (listed_tell (WaitingIsOf sites) (waiting_json sites) (wait_tells sites are) a.waiting b.waiting ha.waiting hb.waiting (ap (at 1) e)))
 
--- ---- items, dry starts, misfits
+-- ---- items, dry starts, coverage, misfits
+
+covered_tells : (sites : List Site) → AreSites sites → (a b : SiteCoverage) → a.site < length sites → b.site < length sites → covered_json sites a ≡ covered_json sites b → a ≡ b
+covered_tells sites are a b ha hb e =
+    let of : ℕ × ℕ × ℕ → Option (List ℕ) × Option (List ℕ) → SiteCoverage = λ x y. record { site = x.0; events = x.1; items = x.2; first = y.0; last = y.1 } in
+    ap₂ of (ap₂ (λ (s : ℕ) (n : ℕ × ℕ). (s, n.0, n.1)) (site_tells sites are a.site b.site ha hb (ap (text_at 4) e)) (ap (λ d. (count_at 0 d, count_at 2 d)) e))
+    (ap₂ (λ x y. (x, y)) (text_tells a.first b.first (ap (at 1) e)) (text_tells a.last b.last (ap (at 3) e)))
 
 items_tell : (sites : List Site) → AreSites sites → (m n : ℕ) (r s : List KnownItem) → m < length sites → n < length sites → map (known_json sites m) r ≡ map (known_json sites n) s
     → (r ≡ s) × (0 < length r → m ≡ n)
@@ -740,6 +747,7 @@ values_tell sites are = record {
   audits = λ r s hr hs e. mapped_tell (AuditedIsOf sites) (audited_json sites) (audit_tells sites are) r s hr hs e;
   misfits = λ a b ha hb e. misfit_tells sites are a b ha hb e;
   gaps = λ a b ha hb e. gaps_tell sites are a b ha hb e;
+  coverages = λ a b ha hb e. mapped_tell (λ (c : SiteCoverage). c.site < length sites) (covered_json sites) (covered_tells sites are) a b ha hb e;
   refusals = λ a b ha hb e. whys_tell sites are a b ha hb e;
 }
 
@@ -756,6 +764,7 @@ abbrev kind_in : Data → ℕ
 kind_in d =
     if has (codes "created") d then 0 else
     if has (codes "withheld") d then 14 else
+    if has (codes "last") d then 15 else
     if has (codes "refused") d then 12 else
     if has (codes "audit") d then 10 else
     if has (codes "misfit") d then 11 else
@@ -830,6 +839,7 @@ kind_told sites (outcomes.Waiting detail coded) some = refl
 kind_told sites (outcomes.Known site known) some = listed_kind (known_json sites site) 8 (λ k. refl) known.items some
 kind_told sites (outcomes.WouldStart quarantined messages) some = refl
 kind_told sites outcomes.Withheld some = refl
+kind_told sites (outcomes.Covered found) some = listed_kind (covered_json sites) 15 (λ c. refl) found.items some
 kind_told sites (outcomes.Audited recalls coded) some = listed_kind (audited_json sites) 10 (λ b. verdict_kind sites b.recall b.verdict) recalls.items some
 kind_told sites (outcomes.Inconsistent misfit) some = refl
 kind_told sites (outcomes.Gaps gaps coded) some = refl

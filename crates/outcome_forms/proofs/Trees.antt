@@ -6,6 +6,7 @@ use Rattle.frame_core.specs.Numbers.{Message, Recall}
 use Rattle.query_core.specs.declared.recalls.RecallDetail.{RecallDetail}
 use Rattle.query_core.specs.declared.recalls.RecallStatus.{RecallStatus}
 use Rattle.query_core.specs.declared.recalls.SiteStanding.{SiteStanding}
+use Rattle.recall_outcomes.specs.declared.outcomes.SiteCoverage.{SiteCoverage}
 use Rattle.recall_outcomes.specs.declared.outcomes.CommandRefusal.{CommandRefusal}
 use Rattle.recall_outcomes.specs.declared.outcomes.CommandRefusal.TheVariants as refusals
 use Rattle.recall_outcomes.specs.declared.outcomes.FoundGaps.{FoundGaps}
@@ -31,7 +32,7 @@ use Rattle.site_core.specs.declared.outcomes.Refusal.{Refusal}
 use Rattle.site_core.specs.declared.outcomes.Refusal.TheVariants as steps
 use Rattle.trace_core.specs.declared.pairs.Pair.{Pair}
 use Rattle.outcome_forms.specs.Accounts.{told_events}
-use Rattle.outcome_forms.specs.Json.{Shown, whole, before, behind, account_json, audited_json, beside_json, created_json, detail_json, effects_json, engaged_json, event_json, gaps_json, known_json, line_members, list_of, misfit_json, outcome_json, outside_json, packed_json, pair_json, part_json, ran_json, root_json, shown_members, shown_way, standing_json, status_json, step_json, step_members, text_or_null, titled_json, trail_json, unseen_json, used_json, verdict_json, waiting_json, why_json, with_events, would_json, withheld_json}
+use Rattle.outcome_forms.specs.Json.{Shown, whole, before, behind, account_json, audited_json, beside_json, covered_json, created_json, detail_json, effects_json, engaged_json, event_json, gaps_json, known_json, line_members, list_of, misfit_json, outcome_json, outside_json, packed_json, pair_json, part_json, ran_json, root_json, shown_members, shown_way, standing_json, status_json, step_json, step_members, text_or_null, titled_json, trail_json, unseen_json, used_json, verdict_json, waiting_json, why_json, with_events, would_json, withheld_json}
 use Rattle.outcome_forms.specs.Telling.{ValuesAreRead}
 use Rattle.outcome_forms.proofs.Reading.{IsTree, all_read, deeper, tree_free}
 
@@ -178,6 +179,13 @@ gaps_tree sites gaps = (
 created_tree : (sites : List Site) → IsTree 6 (created_json sites)
 created_tree sites = (refl, (list_tree 4 (λ (s : Site). string s.name) (λ s. tt) sites, tt))
 
+time_tree : (text : Option (List ℕ)) → IsTree 5 (text_or_null text)
+time_tree None = tt
+time_tree (Some text) = tt
+
+covered_tree : (sites : List Site) (c : SiteCoverage) → IsTree 6 (covered_json sites c)
+covered_tree sites c = (refl, (tt, (time_tree c.first, (tt, (time_tree c.last, (tt, tt))))))
+
 one_tree : (d : Data) → IsTree 6 d → All (IsTree 6) (d ∷ [])
 one_tree d is = All-cons (IsTree 6) d [] is (All-nil (IsTree 6))
 
@@ -196,6 +204,7 @@ all_trees sites (outcomes.Standing recalls coded) = each_tree (status_json sites
 all_trees sites (outcomes.Waiting detail coded) = one_tree (detail_json sites detail) (detail_tree sites detail)
 all_trees sites (outcomes.Known site known) = each_tree (known_json sites site) (λ k. (refl, (tt, (tt, (tt, tt))))) known.items
 all_trees sites (outcomes.WouldStart quarantined messages) = one_tree (would_json quarantined messages) (refl, (tt, (tt, (tt, tt))))
+all_trees sites (outcomes.Covered found) = each_tree (covered_json sites) (covered_tree sites) found.items
 all_trees sites outcomes.Withheld = one_tree withheld_json (refl, (tt, tt))
 all_trees sites (outcomes.Audited recalls coded) = each_tree (audited_json sites) (λ a. verdict_tree sites a.recall a.verdict) recalls.items
 all_trees sites (outcomes.Inconsistent misfit) = one_tree (misfit_json sites misfit) (refl, (tt, (tt, tt)))

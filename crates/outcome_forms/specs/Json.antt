@@ -1,5 +1,5 @@
 -- What a command came to, as JSON: values whose members are in the order of their names.
-use Rattle.std.specs.Prelude.{ℕ, Bool, true, List, [], ◌∷◌, ◌++◌, codes, Option, Some, None, map, string_bytes}
+use Rattle.std.specs.Prelude.{true, ℕ, Bool, List, [], ◌∷◌, ◌++◌, codes, Option, Some, None, map, string_bytes}
 use Rattle.std.specs.List.{flat_map}
 use Rattle.event_json.specs.Names.{field_name, kind_name, sites_fault_name}
 use Rattle.event_json.specs.Sites.{Site}
@@ -48,6 +48,7 @@ use Rattle.recall_outcomes.specs.declared.outcomes.CommandRefusal.TheVariants as
 use Rattle.recall_outcomes.specs.declared.outcomes.FoundGaps.{FoundGaps}
 use Rattle.recall_outcomes.specs.declared.outcomes.Outcome.{Outcome}
 use Rattle.recall_outcomes.specs.declared.outcomes.Outcome.TheVariants as outcomes
+use Rattle.recall_outcomes.specs.declared.outcomes.SiteCoverage.{SiteCoverage}
 use Rattle.recall_outcomes.specs.declared.outcomes.StartedRecall.{StartedRecall}
 use Rattle.recall_outcomes.specs.declared.outcomes.Ways.{Ways}
 use Rattle.recall_outcomes.specs.declared.outcomes.Ways.TheVariants.{Trails, Steps}
@@ -308,6 +309,12 @@ why_json sites why = object (why_members sites why)
 abbrev pub created_json : List Site → Data
 created_json sites = object (member (codes "created") (list_of (λ s. string s.name) sites) no_members)
 
+-- what a site captured, and from when to when
+abbrev pub covered_json : List Site → SiteCoverage → Data
+covered_json sites c =
+    object (count_at (codes "events") c.events (member (codes "first") (text_or_null c.first) (count_at (codes "items") c.items
+    (member (codes "last") (text_or_null c.last) (text_at (codes "site") (name_at sites c.site) no_members)))))
+
 -- that sites didn't run
 abbrev pub withheld_json : Data
 withheld_json = object (member (codes "withheld") (boolean true) no_members)
@@ -327,6 +334,7 @@ outcome_json sites (outcomes.WouldStart quarantined messages) = would_json quara
 outcome_json sites outcomes.Withheld = withheld_json ∷ []
 outcome_json sites (outcomes.Audited recalls coded) = map (audited_json sites) recalls.items
 outcome_json sites (outcomes.Inconsistent misfit) = misfit_json sites misfit ∷ []
+outcome_json sites (outcomes.Covered found) = map (covered_json sites) found.items
 outcome_json sites (outcomes.Gaps gaps coded) = gaps_json sites gaps ∷ []
 outcome_json sites (outcomes.Refused whys) = map (why_json sites) whys.items
 

@@ -26,7 +26,7 @@ use Rattle.site_core.specs.declared.outcomes.Refusal.{Refusal}
 use Rattle.site_core.specs.declared.outcomes.Refusal.TheVariants as steps
 use Rattle.site_recovery.specs.declared.checking.Misfit.{Misfit}
 use Rattle.trace_core.specs.declared.pairs.Pair.{Pair}
-use Rattle.outcome_forms.specs.Json.{Shown, account_json, audited_json, detail_json, effects_json, gaps_json, json_lines, known_json, misfit_json, outcome_json, ran_json, shown_way, status_json, why_json, would_json}
+use Rattle.outcome_forms.specs.Json.{Shown, account_json, audited_json, covered_json, detail_json, effects_json, gaps_json, json_lines, known_json, misfit_json, outcome_json, ran_json, shown_way, status_json, why_json, would_json}
 use Rattle.report_forms.specs.Accounts.{Account, Part, way_pairs}
 use Rattle.report_forms.specs.declared.accounts.Title.{Title}
 use Rattle.report_forms.specs.declared.accounts.Title.TheVariants as titles
@@ -36,6 +36,7 @@ use Rattle.recall_outcomes.specs.declared.outcomes.CommandRefusal.TheVariants as
 use Rattle.recall_outcomes.specs.declared.outcomes.FoundGaps.{FoundGaps}
 use Rattle.recall_outcomes.specs.declared.outcomes.Outcome.{Outcome}
 use Rattle.recall_outcomes.specs.declared.outcomes.Outcome.TheVariants as outcomes
+use Rattle.recall_outcomes.specs.declared.outcomes.SiteCoverage.{SiteCoverage}
 use Rattle.recall_outcomes.specs.declared.outcomes.StartedRecall.{StartedRecall}
 use Rattle.recall_outcomes.specs.declared.outcomes.Ways.{Ways}
 
@@ -91,6 +92,7 @@ kind_of (outcomes.Inconsistent misfit) = 11
 kind_of (outcomes.Refused whys) = 12
 kind_of (outcomes.Gaps gaps coded) = 13
 kind_of outcomes.Withheld = 14
+kind_of (outcomes.Covered found) = 15
 
 -- Where there is a value, it tells which outcome it is.
 abbrev pub ValuesTellKinds : Type 0
@@ -223,6 +225,8 @@ pub record ValuesTell (sites : List Site) : Type 0 where
   pub audits : (r s : List AuditedRecall) → All (AuditedIsOf sites) r → All (AuditedIsOf sites) s → map (audited_json sites) r ≡ map (audited_json sites) s → r ≡ s
   pub misfits : (a b : Misfit) → a.site < length sites → b.site < length sites → misfit_json sites a ≡ misfit_json sites b → a ≡ b
   pub gaps : (a b : FoundGaps) → GapsAreOf sites a → GapsAreOf sites b → gaps_json sites a ≡ gaps_json sites b → AreSameGaps a b
+  pub coverages : (a b : List SiteCoverage) → All (λ (c : SiteCoverage). c.site < length sites) a → All (λ (c : SiteCoverage). c.site < length sites) b
+      → map (covered_json sites) a ≡ map (covered_json sites) b → a ≡ b
   pub refusals : (a b : List CommandRefusal) → All (WhyIsOf sites) a → All (WhyIsOf sites) b → map (why_json sites) a ≡ map (why_json sites) b → AllZip TellsWhy a b
 
 abbrev pub ValuesTellOutcomes : Type 0

@@ -46,6 +46,7 @@ pub(crate) fn outcome_values(
         } => one(alloc, would_json(alloc, *quarantined, *messages)?),
         Outcome::Audited { recalls, coded: _ } => values(alloc, sites, recalls.as_slice()),
         Outcome::Inconsistent(misfit) => one(alloc, misfit_json(alloc, sites, *misfit)?),
+        Outcome::Covered(found) => values(alloc, sites, found.as_slice()),
         Outcome::Gaps { gaps, coded: _ } => one(alloc, gaps_json(alloc, sites, gaps)?),
         Outcome::Refused(whys) => values(alloc, sites, whys.as_slice()),
         _ => Ok(Vec::new(alloc)),

@@ -3,7 +3,9 @@
 use event_json::{MAX_ADDRESSES, SiteNo, Sites, Untraced};
 use item_spellings::are_one_place;
 use query_core::StuckRecall;
-use recall_outcomes::{Knower, Knowers, Notes, Outcome, RunNotes, Stop, StopCause};
+use recall_outcomes::{
+    AuditNotes, Knower, Knowers, MissedItems, Notes, Outcome, RunNotes, Stop, StopCause,
+};
 use recall_text::telling::{name_of, recall_text};
 use report_core::OutsideShipment;
 use site_recovery::Misfit;
@@ -18,6 +20,10 @@ const STUCK: &str =
 const MISSED: &str =
     "note: these items went on from there in containers that others packed, and the site never captured that, so this doesn't tell where they went: `recall gaps` lists the containers\n";
 
+/// What it means where items lie in one that is told.
+const INSIDE: &str =
+    "note: so many items were packed into it, and where they went isn't told: `recall items <dir> <site> --in <epc>` lists them, to trace each and to start its recall\n";
+
 /// The notes beside an outcome.
 pub(crate) fn notes_text(
     alloc: Global,
@@ -29,8 +35,8 @@ pub(crate) fn notes_text(
         Notes::Untraced(untraced) => untraced_text(alloc, untraced),
         Notes::Run(run) => run_text(alloc, sites, run),
         Notes::Knowers(knowers) => knowers_text(alloc, sites, knowers),
-        Notes::Stuck(stuck) => stuck_text(alloc, sites, stuck.as_slice()),
-        Notes::Missed(missed) => missed_text(alloc, sites, missed.as_slice()),
+        Notes::Audit(found) => audit_text(alloc, sites, found),
+        Notes::Missed(missed) => missed_items_text(alloc, sites, missed),
         Notes::Misfit(misfit) => misfit_text(alloc, sites, *misfit),
     }
 }
@@ -131,6 +137,18 @@ fn knowers_text(alloc: Global, sites: &Sites, knowers: &Knowers) -> Result<Strin
     Ok(text)
 }
 
+/// What an audit found beside its verdicts.
+fn audit_text(alloc: Global, sites: &Sites, found: &AuditNotes) -> Result<String, AllocError> {
+    let mut text = String::new(alloc);
+    if !found.stuck.is_empty() {
+        text.push_str(stuck_text(alloc, sites, found.stuck.as_slice())?.as_str())?;
+    }
+    if !found.missed.is_empty() {
+        text.push_str(missed_text(alloc, sites, found.missed.as_slice())?.as_str())?;
+    }
+    Ok(text)
+}
+
 /// The sites that recalls wait at in vain, and what can be done.
 fn stuck_text(alloc: Global, sites: &Sites, stuck: &[StuckRecall]) -> Result<String, AllocError> {
     let mut text = String::new(alloc);
@@ -150,6 +168,24 @@ fn misfit_text(alloc: Global, sites: &Sites, misfit: Misfit) -> Result<String, A
     format!(in alloc;
         "note: misfit {condition} {name}: the records contradict each other, so this isn't exact: `recall audit`\n"
     )
+}
+
+/// What is missed of what is told of an item.
+fn missed_items_text(
+    alloc: Global,
+    sites: &Sites,
+    missed: &MissedItems,
+) -> Result<String, AllocError> {
+    let mut text = String::new(alloc);
+    if !missed.pairs.is_empty() {
+        text.push_str(missed_text(alloc, sites, missed.pairs.as_slice())?.as_str())?;
+    }
+    if missed.inside > 0 {
+        let count = missed.inside;
+        text.push_str(format!(in alloc; "inside {count}\n")?.as_str())?;
+        text.push_str(INSIDE)?;
+    }
+    Ok(text)
 }
 
 /// How many items are missed at each site, and what can be done.

@@ -1,12 +1,13 @@
 //! Outcomes in lines of words, but for reports and traces.
 
 use crate::shown_texts::shown;
-use event_json::Sites;
+use event_json::{PlainText, Sites};
 use frame_core::RecallId;
 use gap_core::{GapLine, UnseenItem};
 use query_core::{RecallDetail, RecallStatus, SiteStanding, WaitingMessage};
 use recall_outcomes::{
-    AuditedRecall, CommandRefusal, FoundGaps, InputOutcome, Outcome, StartedRecall, Task, Totals,
+    AuditedRecall, CommandRefusal, FoundGaps, InputOutcome, Outcome, SiteCoverage, StartedRecall,
+    Task, Totals,
 };
 use recall_text::telling::{effects_text, ended_word, name_of, recall_text, refusal_text};
 use recall_text::texts::message_text;
@@ -53,6 +54,11 @@ pub(crate) fn outcome_text(
         Outcome::Audited { recalls, coded: _ } => {
             for audited in recalls {
                 push_audited(alloc, &mut text, sites, audited)?;
+            }
+        }
+        Outcome::Covered(found) => {
+            for coverage in found {
+                push_coverage(alloc, &mut text, sites, coverage)?;
             }
         }
         Outcome::Inconsistent(misfit) => {
@@ -322,5 +328,28 @@ pub(crate) fn totals_text(alloc: Global, totals: Totals) -> Result<String, Alloc
             "documents {inputs} captured {captured} known {known} skipped {skipped} refused {refused}\n"
         ),
         Task::Start => { format!(in alloc; "items {inputs} started {started} refused {refused}\n") }
+    }
+}
+
+/// Adds what a site captured, and from when to when; a dash stands for a time that there isn't.
+fn push_coverage(
+    alloc: Global,
+    text: &mut String,
+    sites: &Sites,
+    coverage: &SiteCoverage,
+) -> Result<(), AllocError> {
+    let name = name_of(sites, coverage.site);
+    let (events, items) = (coverage.events, coverage.items);
+    let (first, last) = (or_dash(&coverage.first), or_dash(&coverage.last));
+    let line = format!(in alloc;
+        "site {name} events {events} items {items} first {first} last {last}\n"
+    )?;
+    text.push_str(line.as_str())
+}
+
+fn or_dash(time: &Option<PlainText>) -> &str {
+    match time {
+        Some(time) => time.as_str(),
+        None => "-",
     }
 }

@@ -2,12 +2,14 @@
 
 ghost use Rattle.std.specs.Prelude.{◌≡◌, IfOk, map};
 ghost use Rattle.serde_json.specs.View.{view};
-ghost use Rattle.outcome_forms.specs.Json.{detail_json, engaged_json, known_json, root_json, standing_json, status_json, waiting_json, would_json};
+ghost use Rattle.outcome_forms.specs.Json.{covered_json, detail_json, engaged_json, known_json, root_json, standing_json, status_json, waiting_json, would_json};
 
+use crate::step_json::text_or_null;
 use crate::values::{ToJson, array, values};
 use event_json::{SiteNo, Sites};
 use frame_core::MsgId;
 use query_core::{KnownItem, RecallDetail, RecallStatus, SiteStanding, WaitingMessage};
+use recall_outcomes::SiteCoverage;
 use recall_text::telling::{name_of, recall_text};
 use recall_text::texts::message_text;
 use serde_json::{Value, json};
@@ -20,6 +22,16 @@ impl ToJson for RecallStatus {
 
     fn json(&self, alloc: Global, sites: &Sites) -> Result<Value, AllocError> {
         status_json(alloc, sites, self)
+    }
+}
+
+impl ToJson for SiteCoverage {
+    ghost use Rattle.outcome_forms.specs.Json.{covered_json};
+
+    ghost value = { covered_json };
+
+    fn json(&self, alloc: Global, sites: &Sites) -> Result<Value, AllocError> {
+        covered_json(alloc, sites, self)
     }
 }
 
@@ -127,6 +139,22 @@ fn engaged_json(alloc: Global, sites: &Sites, parent: Option<MsgId>) -> Result<V
             Value::try_from_str(alloc, text.as_str())
         }
     }
+}
+
+/// What a site captured, and from when to when.
+fn covered_json(alloc: Global, sites: &Sites, coverage: &SiteCoverage) -> Result<Value, AllocError>
+    ensures { IfOk result (λ v. view v ≡ covered_json sites.now coverage.now) }
+{
+    let first = text_or_null(alloc, coverage.first.as_ref())?;
+    let last = text_or_null(alloc, coverage.last.as_ref())?;
+    let site = name_of(sites, coverage.site);
+    json!(in alloc; {
+        "events": coverage.events,
+        "first": first,
+        "items": coverage.items,
+        "last": last,
+        "site": site
+    })
 }
 
 /// Items that a site knows.

@@ -41,9 +41,9 @@ pub(crate) fn why_sentence(why: &CommandRefusal) -> &'static str {
         }
         CommandRefusal::BadScan(fault) => scan_sentence(*fault),
         CommandRefusal::BadRecall => {
-            "a recall is written as a site's name, `#` and a number: `recall audit` lists the recalls"
+            "a recall is written as a site's name, `#` and a number: `recall status` lists the recalls"
         }
-        CommandRefusal::UnknownRecall => "`recall audit` lists the recalls that sites began",
+        CommandRefusal::UnknownRecall => "`recall status` lists the recalls that sites began",
         CommandRefusal::Step(why) => step_sentence(why),
     }
 }
@@ -135,7 +135,7 @@ fn kind_sentence(kind: DocFaultKind) -> &'static str {
             "the document is no JSON in UTF-8, or is nested more than 127 deep: send JSON text alone, without a byte order mark and not compressed"
         }
         DocFaultKind::NotDocument => {
-            "the document is neither an `EPCISDocument` with an `eventList` nor one event: wrap the events in an `EPCISDocument`; an `EPCISQueryDocument` isn't read"
+            "the document is neither an `EPCISDocument` with an `eventList` nor one event: wrap the events in an `EPCISDocument`, or have `recall convert` make one of an `EPCISQueryDocument` and others"
         }
         DocFaultKind::TooManyEvents => "the document has more than 1,000 events: split it",
         DocFaultKind::NoType => "the event's `type` is none of the standard's five: name the type",

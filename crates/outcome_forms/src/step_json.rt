@@ -67,7 +67,7 @@ fn event_json(alloc: Global, event: &CapturedEvent) -> Result<Value, AllocError>
 }
 
 /// A text, or null where there is none.
-fn text_or_null(alloc: Global, text: Option<&PlainText>) -> Result<Value, AllocError>
+pub(crate) fn text_or_null(alloc: Global, text: Option<&PlainText>) -> Result<Value, AllocError>
     ensures { IfOk result (λ v. view v ≡ text_or_null (option_map (λ t. t.now) text.entry)) }
 {
     match text {

@@ -198,6 +198,7 @@ statuses_tell (outcomes.Inconsistent misfit) = record {
   still_open = (λ e. let no : ⊥ = omega (arith, e) in absurd no, λ no. absurd no);
   no_others = inr (inr (inl refl));
 }
+statuses_tell (outcomes.Covered sites) = done (outcomes.Covered sites) refl (λ no. no) (λ no. no) (λ no. no)
 statuses_tell (outcomes.Gaps gaps coded) =
     five_or_done (outcomes.Gaps gaps coded) (coded && has_gaps gaps) refl (λ no. no) (λ no. no)
     (λ e. let (asked, found) = and_also coded (has_gaps gaps) e in (asked, gap_of gaps found))

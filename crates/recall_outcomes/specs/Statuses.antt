@@ -57,5 +57,6 @@ outcome_status (outcomes.Known site items) = 0
 outcome_status (outcomes.WouldStart quarantined messages) = 0
 outcome_status (outcomes.Audited recalls coded) = audit_status recalls.items coded
 outcome_status (outcomes.Inconsistent misfit) = 4
+outcome_status (outcomes.Covered sites) = 0
 outcome_status (outcomes.Gaps gaps coded) = if coded && has_gaps gaps then 5 else 0
 outcome_status (outcomes.Refused whys) = 1

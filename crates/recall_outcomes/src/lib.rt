@@ -14,7 +14,7 @@ mod outcomes;
 pub use batches::{InputOutcome, Task, Totals};
 pub use causes::{Cause, Failure};
 pub use faults::Fault;
-pub use notes::{Knower, Knowers, Notes, RunNotes, Stop, StopCause};
+pub use notes::{AuditNotes, Knower, Knowers, MissedItems, Notes, RunNotes, Stop, StopCause};
 pub use outcomes::{
-    AuditedRecall, CommandRefusal, FoundGaps, Outcome, Output, StartedRecall, Ways,
+    AuditedRecall, CommandRefusal, FoundGaps, Outcome, Output, SiteCoverage, StartedRecall, Ways,
 };

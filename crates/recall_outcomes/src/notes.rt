@@ -17,13 +17,32 @@ pub enum Notes {
     Run(RunNotes),
     /// Who knows an item that the site that was asked doesn't know.
     Knowers(Knowers),
-    /// The sites that recalls wait at in vain, by their numbers: one at least.
-    Stuck(Vec<StuckRecall>),
-    /// Items that are told, each at the site that sent it on with something that others packed, so that it isn't told where
-    /// it went: one at least.
-    Missed(Vec<Pair>),
+    /// What an audit found beside its verdicts: something at least.
+    Audit(AuditNotes),
+    /// What is missed of what is told: something at least.
+    Missed(MissedItems),
     /// The records contradict each other so, and what is told isn't exact.
     Misfit(Misfit),
+}
+
+/// What is missed of what is told of an item.
+#[derive(Debug, Drop)]
+pub struct MissedItems {
+    /// Items that are told, each at the site that sent it on with something that others packed, so that it isn't told where
+    /// it went.
+    pub pairs: Vec<Pair>,
+    /// How many items were packed into the item, at any depth and by any site: where they went isn't told.
+    pub inside: u64,
+}
+
+/// What an audit found beside its verdicts.
+#[derive(Debug, Drop)]
+pub struct AuditNotes {
+    /// The sites that recalls wait at in vain, by their numbers.
+    pub stuck: Vec<StuckRecall>,
+    /// Items that recalls reach, each at the site that sent it on with something that others packed, so that the recalls
+    /// don't find where it went.
+    pub missed: Vec<Pair>,
 }
 
 /// Why a site stopped.

@@ -5,7 +5,7 @@ ghost use Rattle.std.specs.List.{list_any};
 ghost use Rattle.recall_outcomes.specs.Statuses.{audit_status, has_gaps, is_amiss, is_open, is_unended, is_unjudged, outcome_status};
 
 use crate::notes::Notes;
-use event_json::{Sequence, SiteNo, Sites};
+use event_json::{PlainText, Sequence, SiteNo, Sites};
 use frame_core::RecallId;
 use gap_core::{GapLine, Gaps, UnseenItem};
 use item_spellings::ScanFault;
@@ -38,6 +38,20 @@ pub struct AuditedRecall {
     pub recall: RecallId,
     /// How its quarantine compares with what its root reaches; `None` while the recall is open.
     pub verdict: Option<Verdict>,
+}
+
+/// What a site captured, and from when to when.
+#[derive(Debug, Drop)]
+pub struct SiteCoverage {
+    pub site: SiteNo,
+    /// How many events it captured.
+    pub events: u64,
+    /// How many items it knows: events of it name them, or they are quarantined there.
+    pub items: u64,
+    /// When the earliest of the events happened, in UTC; `None` where there is none, or no time names its instant.
+    pub first: Option<PlainText>,
+    /// When the last of them happened, in the same way.
+    pub last: Option<PlainText>,
 }
 
 /// Where a site's events say nothing of what others packed, or sent it.
@@ -120,6 +134,8 @@ pub enum Outcome {
     },
     /// The records of the sites aren't consistent.
     Inconsistent(Misfit),
+    /// What each site captured, by the numbers of the sites.
+    Covered(Vec<SiteCoverage>),
     /// The gaps of what the sites captured.
     Gaps {
         gaps: FoundGaps,
@@ -221,6 +237,7 @@ impl Outcome {
             } => 0,
             Outcome::Audited { recalls, coded } => audit_status(recalls.as_slice(), *coded),
             Outcome::Inconsistent(_) => 4,
+            Outcome::Covered(_) => 0,
             Outcome::Gaps { gaps, coded } => { if *coded && has_gaps(gaps) { 5 } else { 0 } }
             Outcome::Refused(_) => 1,
         }

@@ -13,7 +13,7 @@ use std::alloc::{AllocError, Global};
 ///
 /// # Errors
 /// Out of memory.
-pub(crate) fn time_of(alloc: Global, instant: i128) -> Result<Option<PlainText>, AllocError>
+pub fn time_of(alloc: Global, instant: i128) -> Result<Option<PlainText>, AllocError>
     ensures { IfOk result (TellsTime instant) }
 {
     let Ok(timestamp) = Timestamp::from_nanosecond(instant) else {

@@ -31,6 +31,7 @@ mod with_events;
 pub use audits::{Verdict, audit};
 pub use back_trails::{BackTrail, BackTrails};
 pub use destinations::Destination;
+pub use event_times::time_of;
 pub use faults::{ReportFault, TraceFault};
 pub use outside::OutsideShipment;
 pub use reports::{RecallReport, report};

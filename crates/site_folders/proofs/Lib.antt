@@ -1,2 +1,3 @@
 pub mod CallsInTurn
+mod MissingLemmas
 pub mod VainLemmas

@@ -1,5 +1,5 @@
--- The recalls that sites began, and the roots of those that are open.
-use Rattle.std.specs.Prelude.{ℕ, if◌then◌else◌, List, [], ◌∷◌, map}
+-- The recalls that sites began, and their roots.
+use Rattle.std.specs.Prelude.{ℕ, Bool, ◌&&◌, not, if◌then◌else◌, List, [], ◌∷◌, map}
 use Rattle.std.specs.FinMap as finite
 use Rattle.std.specs.List.{flat_map}
 use Rattle.recall_outcomes.specs.declared.outcomes.StartedRecall.{StartedRecall}
@@ -19,14 +19,14 @@ begun_by r = map (begun_as r.engagement.me) (finite.entries r.engagement.own)
 abbrev pub begun : List Record → List StartedRecall
 begun records = flat_map begun_by records
 
--- the root of a recall that a site began, while it is open
-abbrev pub open_root : ℕ → Own → List Pair
-open_root site own = if own.ended then [] else record { site = site; item = own.root } ∷ []
+-- the root of a recall that a site began: of each, or only of one that is open
+abbrev pub root_of : Bool → ℕ → Own → List Pair
+root_of each site own = if own.ended && not each then [] else record { site = site; item = own.root } ∷ []
 
 -- those that the site of a record began, by number
-abbrev pub open_roots_by : Record → List Pair
-open_roots_by r = flat_map (λ entry. open_root r.engagement.me entry.1) (finite.entries r.engagement.own)
+abbrev pub roots_by : Bool → Record → List Pair
+roots_by each r = flat_map (λ entry. root_of each r.engagement.me entry.1) (finite.entries r.engagement.own)
 
 -- those that the sites of these records began, by site, then by number
-abbrev pub open_roots : List Record → List Pair
-open_roots records = flat_map open_roots_by records
+abbrev pub roots : Bool → List Record → List Pair
+roots each records = flat_map (roots_by each) records

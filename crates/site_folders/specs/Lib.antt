@@ -3,6 +3,7 @@ pub mod Faults
 pub mod FileCalls
 pub mod Keepers
 pub mod Lists
+pub mod Missing
 pub mod Paths
 pub mod Questions
 pub mod Refusals

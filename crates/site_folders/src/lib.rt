@@ -3,6 +3,7 @@
 #![tactic(auto)]
 
 mod folders;
+mod missing;
 mod questions;
 mod recalls;
 mod refusals;
@@ -10,6 +11,7 @@ mod refusals;
 pub use folders::{
     Files, close_all, file_path, list_path, open_all, open_records, open_site, sites_of,
 };
+pub use missing::{count_inside, inside_notes, missed_from};
 pub use questions::{Question, SiteQuestion, ask, ask_site};
-pub use recalls::{begun, open_roots};
+pub use recalls::{begun, roots};
 pub use refusals::{no_site, refusal, refusal_of, unspelled};

@@ -1,8 +1,8 @@
-//! The recalls that the sites began, and the roots of those that are open.
+//! The recalls that the sites began, and their roots.
 
 ghost use Rattle.std.specs.Prelude.{◌≡◌, ◌++◌, IfOk, OnOk};
 ghost use Rattle.site_recovery.specs.Checking.{records_at};
-ghost use Rattle.site_folders.specs.Begun.{begun, begun_by, open_root, open_roots, open_roots_by};
+ghost use Rattle.site_folders.specs.Begun.{begun, begun_by, root_of, roots, roots_by};
 
 use event_json::SiteNo;
 use frame_core::RecallId;
@@ -40,42 +40,50 @@ fn push_begun(all: &mut Vec<StartedRecall>, state: &SiteState) -> Result<(), All
     Ok(())
 }
 
-/// The roots of the recalls that the sites of these records began and that are open, by site, then by number.
-pub fn open_roots(alloc: Global, records: &[&SiteState]) -> Result<Vec<Pair>, AllocError>
-    ensures { IfOk result (λ roots. roots.items ≡ open_roots (records_at records.now)) }
+/// The roots of the recalls that the sites of these records began, of each or only of those that are open, by site, then
+/// by number.
+pub fn roots(alloc: Global, records: &[&SiteState], each: bool) -> Result<Vec<Pair>, AllocError>
+    ensures { IfOk result (λ found. found.items ≡ roots each (records_at records.now)) }
 {
-    let mut roots = Vec::new(alloc);
+    let mut found = Vec::new(alloc);
     for record in records {
-        push_open(alloc, &mut roots, record)?;
+        push_roots(alloc, &mut found, record, each)?;
     }
-    Ok(roots)
+    Ok(found)
 }
 
-/// Adds the roots of the recalls that a site began and that are open, by number.
-fn push_open(alloc: Global, roots: &mut Vec<Pair>, state: &SiteState) -> Result<(), AllocError>
-    ensures { OnOk result (roots.new.items ≡ roots.old.items ++ open_roots_by state.now) }
+/// Adds the roots of the recalls that a site began, by number.
+fn push_roots(
+    alloc: Global,
+    found: &mut Vec<Pair>,
+    state: &SiteState,
+    each: bool,
+) -> Result<(), AllocError>
+    ensures { OnOk result (found.new.items ≡ found.old.items ++ roots_by each state.now) }
 {
     let site = state.me();
     for (_, own) in state.own_recalls() {
-        push_root(alloc, roots, site, own)?;
+        push_root(alloc, found, site, own, each)?;
     }
     Ok(())
 }
 
-/// Adds the root of a recall that a site began, if it is open.
+/// Adds the root of a recall that a site began, if it is to be told.
 fn push_root(
     alloc: Global,
-    roots: &mut Vec<Pair>,
+    found: &mut Vec<Pair>,
     site: SiteNo,
     own: &Own,
+    each: bool,
 ) -> Result<(), AllocError>
-    ensures { OnOk result (roots.new.items ≡ roots.old.items ++ open_root site own.now) }
+    ensures { OnOk result (found.new.items ≡ found.old.items ++ root_of each site own.now) }
 {
-    if !own.ended {
-        roots.push(Pair {
-            site,
-            item: own.root.copy(alloc)?,
-        })?;
+    if own.ended && !each {
+        return Ok(());
     }
+    found.push(Pair {
+        site,
+        item: own.root.copy(alloc)?,
+    })?;
     Ok(())
 }

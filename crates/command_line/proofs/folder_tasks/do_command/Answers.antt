@@ -5,19 +5,20 @@ use Rattle.frame_core.specs.Numbers.{Recall}
 use Rattle.recall_outcomes.specs.declared.notes.Notes.{Notes}
 use Rattle.recall_outcomes.specs.declared.notes.Notes.TheVariants.{Nothing}
 use Rattle.recall_outcomes.specs.declared.outcomes.Outcome.{Outcome}
-use Rattle.site_core.specs.declared.inputs.SiteInput.TheVariants as inputs
 use Rattle.site_folders.specs.FileCalls.{Led}
 use Rattle.site_folders.specs.Questions.{AsksAll, AsksSite}
 use Rattle.site_folders.specs.Refusals.{IsNoSite}
 use Rattle.folder_questions.specs.Asked.{AsksItem, AsksRecall, RefusesItem, RefusesRecall}
 use Rattle.folder_questions.specs.Audits.{AnswersAudit}
+use Rattle.folder_questions.specs.Contents.{AnswersContents}
+use Rattle.folder_questions.specs.Coverage.{AnswersCoverage}
 use Rattle.folder_questions.specs.DryStarts.{AnswersDryStart}
 use Rattle.folder_questions.specs.Gaps.{AnswersGaps}
 use Rattle.folder_questions.specs.Reports.{AnswersReport}
 use Rattle.folder_questions.specs.SiteItems.{AnswersItems}
 use Rattle.folder_questions.specs.Standings.{AnswersRecall}
 use Rattle.folder_questions.specs.Traces.{AnswersTrace}
-use Rattle.command_line.specs.Leads.{Traces}
+use Rattle.command_line.specs.Leads.{TellsContents, Traces}
 use Rattle.command_line.proofs.Behind.{and_who}
 use Rattle.command_line.proofs.Starts.{Firsts, first_led, noted_led, plainly_led, start_led}
 use Rattle.command_line.proofs.folder_tasks.do_command.Goals.{then-dry+in_ok-ask_site-in-Start, else-dry+in_ok-first-in-Start}
@@ -48,11 +49,11 @@ returns-after-dry-clause-led g c =
     let first : Led does files c.if-dry.files (Firsts does knows shown failed may stored folder site item dry c.if-dry.first) =
     elim c.if-dry.branch [
       | then-dry+in_ok-ask_site-in-Start w ↦
-          first_led does knows shown failed may stored folder site item dry true files c.if-dry.files w.ask_site.new.files c.if-dry.first w.plain-first.result w.if-dry.true w.files-is w.first-is
-          (plainly_led does
-          (AsksSite {Q = List ℕ} shown stored folder.now (λ sites outcome. RefusesItem site.now item sites outcome) (λ sites s key. AsksItem site.now item sites s key)
-          (λ key r outcome. AnswersDryStart r (inputs.Start key) outcome))
-          files w.ask_site.new.files w.in_ok-ask_site-in-Start.field-0 w.plain-first.result w.plain-first.ensures.sites w.plain-first.ensures.outcome w.plain-first.ensures.silent w.in_ok-ask_site-in-Start.ensures.answered)
+          first_led does knows shown failed may stored folder site item dry true files c.if-dry.files w.ask_site.new.files c.if-dry.first w.with_notes-first.result w.if-dry.true w.files-is w.first-is
+          (noted_led does
+          (AsksSite {Q = List ℕ} {A = Outcome × Notes} shown stored folder.now (λ sites told. RefusesItem site.now item sites told.0 × (told.1 ≡ Nothing)) (λ sites s key. AsksItem site.now item sites s key)
+          (λ key r told. AnswersDryStart r key told.0 told.1))
+          files w.ask_site.new.files w.in_ok-ask_site-in-Start.field-0 w.with_notes-first.result w.with_notes-first.ensures.sites w.with_notes-first.ensures.outcome w.with_notes-first.ensures.notes w.in_ok-ask_site-in-Start.ensures.answered)
       | else-dry+in_ok-first-in-Start w ↦
           first_led does knows shown failed may stored folder site item dry false files c.if-dry.files w.start.new.files c.if-dry.first w.in_ok-first-in-Start.first w.if-dry.false w.files-is w.first-is w.in_ok-first-in-Start.ensures.calls
     ] in
@@ -86,11 +87,11 @@ returns-in_ok-ask-in-Trace-clause-led g c =
     let ways = c.in-Trace.ways in
     let events = c.in-Trace.events in
     rw c.in-Trace.is
-    (and_who does shown stored folder (record { site = site; item = item }) (Traces shown stored folder site.now item back ways events) c.args.files.now c.ask-in-Trace.new.files c.with_knowers-in-Trace.new.files c.with_notes-first.result c.with_knowers-in-Trace.result
+    (and_who does shown stored folder (record { site = site; item = item }) (Traces shown stored folder site.now item back ways events) c.args.files.now c.ask-in-Trace.new.files c.with_knowers-in-Trace.new.files c.with_notes-first-in-Trace.result c.with_knowers-in-Trace.result
     (noted_led does
     (AsksAll {Q = ℕ × List ℕ} {A = Outcome × Notes} shown stored folder (λ sites told. RefusesItem site.now item sites told.0 × (told.1 ≡ Nothing)) (λ sites asked. AsksItem site.now item sites asked.0 asked.1)
     (λ asked rs told. AnswersTrace rs asked.0 asked.1 back ways events told.0 told.1))
-    c.args.files.now c.ask-in-Trace.new.files c.in_ok-ask-in-Trace.field-0 c.with_notes-first.result c.with_notes-first.ensures.sites c.with_notes-first.ensures.outcome c.with_notes-first.ensures.notes
+    c.args.files.now c.ask-in-Trace.new.files c.in_ok-ask-in-Trace.field-0 c.with_notes-first-in-Trace.result c.with_notes-first-in-Trace.ensures.sites c.with_notes-first-in-Trace.ensures.outcome c.with_notes-first-in-Trace.ensures.notes
     c.in_ok-ask-in-Trace.ensures.answered)
     c.with_knowers-in-Trace.ensures)
 
@@ -114,6 +115,24 @@ returns-in_ok-ask_site-in-Items-clause-led g c =
     c.args.files.now c.ask_site-in-Items.new.files c.in_ok-ask_site-in-Items.field-0 c.plain.result c.plain.ensures.sites c.plain.ensures.outcome c.plain.ensures.silent
     c.in_ok-ask_site-in-Items.ensures.answered)
 
+pub returns-in_ok-ask-in-Inside-clause-led : goal.returns-in_ok-ask-in-Inside-clause-led
+returns-in_ok-ask-in-Inside-clause-led g c =
+    let does = g.F.Files.does in
+    let shown = g.K.SiteKeeper.shown in
+    let stored = g.K.SiteKeeper.stored in
+    let folder = c.in-Inside.folder.now in
+    let site = c.in-Inside.site in
+    let item = c.in-Inside.item in
+    let text = c.in-Inside.text.now in
+    rw c.in-Inside.is
+    (and_who does shown stored folder (record { site = site; item = item }) (TellsContents shown stored folder site.now item text) c.args.files.now c.ask-in-Inside.new.files c.with_knowers-in-Inside.new.files c.plain-first.result c.with_knowers-in-Inside.result
+    (plainly_led does
+    (AsksAll {Q = ℕ × List ℕ} shown stored folder (λ sites outcome. RefusesItem site.now item sites outcome) (λ sites asked. AsksItem site.now item sites asked.0 asked.1)
+    (λ asked rs outcome. AnswersContents rs asked.0 asked.1 text outcome))
+    c.args.files.now c.ask-in-Inside.new.files c.in_ok-ask-in-Inside.field-0 c.plain-first.result c.plain-first.ensures.sites c.plain-first.ensures.outcome c.plain-first.ensures.silent
+    c.in_ok-ask-in-Inside.ensures.answered)
+    c.with_knowers-in-Inside.ensures)
+
 pub returns-in_ok-ask-in-Gaps-clause-led : goal.returns-in_ok-ask-in-Gaps-clause-led
 returns-in_ok-ask-in-Gaps-clause-led g c =
     rw c.in-Gaps.is
@@ -121,3 +140,11 @@ returns-in_ok-ask-in-Gaps-clause-led g c =
     (AsksAll {Q = ⊤} g.K.SiteKeeper.shown g.K.SiteKeeper.stored c.in-Gaps.folder.now (λ sites outcome. ⊥) (λ sites asked. ⊤) (λ asked rs outcome. AnswersGaps rs c.in-Gaps.coded outcome))
     c.args.files.now c.ask-in-Gaps.new.files c.in_ok-ask-in-Gaps.field-0 c.plain-in-Gaps.result c.plain-in-Gaps.ensures.sites c.plain-in-Gaps.ensures.outcome c.plain-in-Gaps.ensures.silent
     c.in_ok-ask-in-Gaps.ensures.answered)
+
+pub returns-in_ok-ask-in-Coverage-clause-led : goal.returns-in_ok-ask-in-Coverage-clause-led
+returns-in_ok-ask-in-Coverage-clause-led g c =
+    rw c.in-Coverage.is
+    (plainly_led g.F.Files.does
+    (AsksAll {Q = ⊤} g.K.SiteKeeper.shown g.K.SiteKeeper.stored c.in-Coverage.folder.now (λ sites outcome. ⊥) (λ sites asked. ⊤) (λ asked rs outcome. AnswersCoverage rs outcome))
+    c.args.files.now c.ask-in-Coverage.new.files c.in_ok-ask-in-Coverage.field-0 c.plain-in-Coverage.result c.plain-in-Coverage.ensures.sites c.plain-in-Coverage.ensures.outcome c.plain-in-Coverage.ensures.silent
+    c.in_ok-ask-in-Coverage.ensures.answered)

@@ -1,4 +1,4 @@
-use Rattle.std.proofs.Common.{◌∙◌, sym, inl, inr}
+use Rattle.std.proofs.Common.{◌∙◌, refl, sym, inl, inr}
 use Rattle.item_spellings.specs.Keys.{item_reading}
 use Rattle.recall_outcomes.specs.declared.faults.Fault.TheVariants.{NoMemory}
 use Rattle.site_core.specs.declared.inputs.SiteInput.TheVariants.{Start}
@@ -42,12 +42,12 @@ returns-in_err-outcome-in-Ok-clause-failed g c =
     handed_on c.from_residual-in_err-outcome-in-Ok.result _ _ c.from_residual-in_err-outcome-in-Ok.ensures.1
     (start_broke g.F.Files.does shown may failed stored folder c.args.site.now c.args.item.now NoMemory _ _ _ sites c.in-Some.number c.in-Ok.key
     c.in_ok-sites.ensures.read (sym c.find.ensures ∙ c.in-Some.is) (sym c.in_ok-read.ensures ∙ c.in-Ok.is)
-    (led_so g.F.Files.does _ _ (λ calls at. inr (refused_breaks g.F.Files.does shown may failed stored folder sites c.in-Some.number (Start c.in-Ok.key) c.in_ok-done-in-Ok.done calls c.in_err-outcome-in-Ok.ensures.failed at)) c.in_ok-done-in-Ok.ensures.calls))
+    (led_so g.F.Files.does _ _ (λ calls (at, counts). inr (refused_breaks g.F.Files.does shown may failed stored folder sites c.in-Some.number (Start c.in-Ok.key) c.in_ok-done-in-Ok.done calls c.in_err-outcome-in-Ok.ensures.failed at)) c.in_ok-done-in-Ok.ensures.calls))
 
 pub returns-in_ok-outcome-in-Ok-clause-calls : goal.returns-in_ok-outcome-in-Ok-clause-calls
 returns-in_ok-outcome-in-Ok-clause-calls g c =
-    start_done g.F.Files.does g.K.SiteKeeper.shown g.K.SiteKeeper.may g.K.SiteKeeper.failed g.K.SiteKeeper.stored c.args.folder.now c.args.site.now c.args.item.now _ _ _ c.in_ok-sites.sites c.in-Some.number c.in-Ok.key c.in_ok-done-in-Ok.done _
-    c.in_ok-sites.ensures.read (sym c.find.ensures ∙ c.in-Some.is) (sym c.in_ok-read.ensures ∙ c.in-Ok.is) c.in_ok-done-in-Ok.ensures.calls c.plain-in-Ok.ensures.sites (rw c.plain-in-Ok.ensures.outcome c.in_ok-outcome-in-Ok.ensures.told) c.plain-in-Ok.ensures.notes
+    start_done g.F.Files.does g.K.SiteKeeper.shown g.K.SiteKeeper.may g.K.SiteKeeper.failed g.K.SiteKeeper.stored c.args.folder.now c.args.site.now c.args.item.now _ _ _ c.in_ok-sites.sites c.in-Some.number c.in-Ok.key c.in_ok-done-in-Ok.done c.in_ok-done-in-Ok.inside _
+    c.in_ok-sites.ensures.read (sym c.find.ensures ∙ c.in-Some.is) (sym c.in_ok-read.ensures ∙ c.in-Ok.is) c.in_ok-done-in-Ok.ensures.calls refl c.in_ok-outcome-in-Ok.ensures.told c.noted_start-notes.ensures
 
 pub returns-in_err-outcome-in-Err-clause-failed : goal.returns-in_err-outcome-in-Err-clause-failed
 returns-in_err-outcome-in-Err-clause-failed g c =

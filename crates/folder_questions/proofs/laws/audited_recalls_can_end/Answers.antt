@@ -13,5 +13,5 @@ returns c = λ world recalls coded told recall root none one sound audited begun
     let all = all_sites rs one sound in
     every_recall_can_end world recall root
     (record { places = λ s below. (all s below).place; fits = subst (Fits (world_of rs)) (sym none) audited.1 })
-    (record { one = one; sound = sound; await = none_in_vain rs audited.3 })
+    (record { one = one; sound = sound; await = none_in_vain rs audited.3.0 })
     begun numbers

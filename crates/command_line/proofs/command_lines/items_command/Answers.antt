@@ -1,0 +1,11 @@
+use Rattle.std.proofs.Common.{codes, refl, sym, ◌∙◌}
+use Rattle.clap.specs.Words.{found_of}
+use Rattle.clap.proofs.WalkLemmas.{first_value-rows}
+use Rattle.command_line.proofs.command_lines.items_command.Goals as goal
+
+pub returns-in_ok-spelling-in-Some : goal.returns-in_ok-spelling-in-Some
+returns-in_ok-spelling-in-Some c =
+    (refl, c.requires.folder, c.requires.site, c.text_of-text.ensures, sym (c.in-Some.ensures ∙ first_value-rows (found_of c.args.given.now) (codes "in")), c.in_ok-spelling-in-Some.ensures.one)
+
+pub returns-in-None : goal.returns-in-None
+returns-in-None c = (refl, c.requires.folder, c.requires.site, c.text_of-text.ensures, sym (c.in-None.ensures ∙ first_value-rows (found_of c.args.given.now) (codes "in")))
