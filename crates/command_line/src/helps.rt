@@ -355,12 +355,13 @@ value is an EPCISDocument, with its events in `eventList` or in `event`, an EPCI
 array of these. The type of an event may stand in `@type` or `isA`. A byte order mark is passed over. With `--lots`
 each lot of a list of quantities stands among the items of the list, by its one spelling,
 https://id.gs1.org/01/<gtin>/10/<lot>, and so does each lot that an event names among its items; an event of which an
-element has no lot stays as it is.
+element has no lot stays as it is. A lot that the `ilmd` of an event names leads to the units that the event brings
+forth, by an event behind it.
 
 The error stream tells what is no document, `refused Doc Syntax` or `NotDocument` with the file and the line, and
-then `note: written <documents> events <events> lots <lots> left <events>`: the events that are left still have
-quantities, with which a capture refuses them. It is for a folder from its first capture on: an event that was
-captured without `--lots` is another one with it.
+then `note: written <documents> events <events> lots <lots> derived <events> left <events>`: those that are derived
+lead from a lot to its units, and those that are left still have quantities, with which a capture refuses them. It is
+for a folder from its first capture on: an event that was captured without `--lots` is another one with it.
 
 Examples:
   recall convert answer-of-a-query.json | recall capture chain dairy - --lines

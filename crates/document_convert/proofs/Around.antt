@@ -51,12 +51,12 @@ is_object (object ms) items is = (ms, refl)
 apart : codes "type" ≡ codes "epcisBody" → ⊥
 apart same = cc
 
-around_type : (ms : Members) (es : List Data) → type_text (document_around (object ms) es) ≡ Some (codes "EPCISDocument")
+pub around_type : (ms : Members) (es : List Data) → type_text (document_around (object ms) es) ≡ Some (codes "EPCISDocument")
 around_type ms es =
     rw (get_member-put_other (codes "type") (codes "epcisBody") (body_of es) (put (codes "type") (string (codes "EPCISDocument")) ms) apart)
     (set_type (codes "EPCISDocument") ms)
 
-around_list : (ms : Members) (es : List Data) → listed (document_around (object ms) es) ≡ Some (items_of es)
+pub around_list : (ms : Members) (es : List Data) → listed (document_around (object ms) es) ≡ Some (items_of es)
 unfolding listed
 around_list ms es = rw (get_member-put (codes "epcisBody") (body_of es) (put (codes "type") (string (codes "EPCISDocument")) ms)) refl
 

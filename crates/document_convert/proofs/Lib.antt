@@ -1,5 +1,6 @@
 pub mod Cuts
 pub mod Lists
+pub mod Has
 pub mod Members
 pub mod Settled
 pub mod Around
@@ -14,7 +15,11 @@ pub mod LotSpellings
 pub mod MovedLaws
 pub mod NoLots
 pub mod NamedLaws
+pub mod Beside
+pub mod UnitLemmas
+pub mod MadeLots
 pub mod LostLaws
 pub mod RespelledLaws
 pub mod LineLemmas
 pub mod ConvertLemmas
+pub mod UnitLaws

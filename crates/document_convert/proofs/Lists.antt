@@ -1,6 +1,7 @@
 -- Lists of values, as a JSON array has them.
 use Rattle.std.proofs.lemmas.Bool.{ne_eqb}
-use Rattle.std.proofs.Common.{arith, suc, ◌≡◌, List, [], ◌∷◌, map, refl, ap}
+use Rattle.std.proofs.Common.{arith, suc, ◌≡◌, ◌≤◌, ℕ, List, [], ◌∷◌, map, take, refl, sym, ap, ◌∙◌}
+use Rattle.std.proofs.lemmas.List.{take_all}
 use Rattle.std.specs.Prelude.{◌==◌, not, length, Some}
 use Rattle.serde_json.specs.Data.{Data, Items, no_items, item, array}
 use Rattle.serde_json.specs.View.{items_of, view}
@@ -29,3 +30,7 @@ filled (v ∷ vs) = rw (ne_eqb (suc (length vs)) 0 (λ e. absurd (omega arith)))
 pub listed_length : (vs : List Value) → length (in_order (items_of (map view vs))) ≡ length vs
 listed_length [] = refl
 listed_length (v ∷ vs) = ap suc (listed_length vs)
+
+-- the values of a list, once all are taken
+pub listed_taken : (vs : List Value) (n : ℕ) → length vs ≤ n → map view (take n vs) ≡ in_order (items_of (map view vs))
+listed_taken vs n all = ap (map view) (take_all n vs all) ∙ sym (listed_back (map view vs))

@@ -1,48 +1,28 @@
 -- Nothing gets lost.
-use Rattle.std.proofs.Common.{◌≡◌, ◌⊎◌, ℕ, zero, suc, List, ◌∷◌, ◌++◌, Contains, Option, Some, None, codes, map, inl, inr, refl, sym, ap, ◌∙◌, subst, arith}
+use Rattle.std.proofs.Common.{◌≡◌, ◌⊎◌, ℕ, List, ◌∷◌, ◌++◌, Contains, Bool, true, false, Option, Some, None, bytes_eq, codes, map, inl, inr, refl, sym, ap, ◌∙◌, subst}
 use Rattle.std.specs.Prelude.{option_and_then, option_map}
 use Rattle.std.proofs.lemmas.Option.{same_Some}
 use Rattle.std.proofs.lemmas.List.Elements.{Contains-append_left}
-use Rattle.serde_json.specs.Data.{Data, null, boolean, number, string, array, object, Items, no_items, item}
-use Rattle.serde_json.specs.Find.{as_str, get}
+use Rattle.std.proofs.lemmas.Slice.Eq.{bytes_eq-Decides}
+use Rattle.serde_json.specs.Data.{Data, string, Items, no_items, item}
+use Rattle.serde_json.specs.Find.{get}
 use Rattle.serde_json.specs.View.{items_of}
 use Rattle.event_json.specs.Checks.{type_text}
-use Rattle.event_json.specs.Members.{member_named, present}
+use Rattle.event_json.specs.Members.{member_named}
 use Rattle.event_json.specs.Untraced.{in_order}
 use Rattle.document_convert.specs.Quantities.{and_texts, list_of, lot_in, lots_in, lots_of, with_its_lots}
-use Rattle.document_convert.specs.Respelled.{respelled_item, respelled_text}
-use Rattle.document_convert.specs.Lotted.{lotted}
+use Rattle.document_convert.specs.Respelled.{respelled_item, respelled_text, spells_otherwise, with_spelled_lots}
+use Rattle.document_convert.specs.Lotted.{converted_event, lotted}
 use Rattle.document_convert.specs.LotLaws.{AreFilled, IsFilled, IsMoved, IsRespelled, KeepsItems, KeepsLots, KeepsParent, Names, NamesLot, NothingGetsLost}
+use Rattle.document_convert.proofs.Beside.{array_there, lots_beside, names_beside, same_member, same_type}
+use Rattle.document_convert.proofs.Has.{cases, here, there}
 use Rattle.document_convert.proofs.Lists.{listed_back}
 use Rattle.document_convert.proofs.MovedLaws.{contains_mapped, contains_none}
+use Rattle.document_convert.proofs.MadeLots.{event_keeps, event_others}
 use Rattle.document_convert.proofs.NamedLaws.{lots_are_named}
 use Rattle.document_convert.proofs.RespelledLaws.{events_are_respelled}
 
--- ---- members that stay
-
-same_member : (name : List ℕ) (d found : Data) → get name found ≡ get name d → member_named name found ≡ member_named name d
-same_member name d found is = ap (option_and_then present) is
-
-same_type : (d found : Data) → get (codes "type") found ≡ get (codes "type") d → type_text found ≡ type_text d
-same_type d found is = ap (option_and_then as_str) (same_member (codes "type") d found is)
-
-names_beside : (name text : List ℕ) (d found : Data) → get name found ≡ get name d → Names name text d → Names name text found
-names_beside name text d found is (list, its, has) = (list, ap list_of (same_member name d found is) ∙ its, has)
-
-lots_beside : (name lot : List ℕ) (d found : Data) → get name found ≡ get name d → NamesLot name lot d → NamesLot name lot found
-lots_beside name lot d found is (list, e, its, has, lot_is) = (list, e, same_member name d found is ∙ its, has, lot_is)
-
 -- ---- lists
-
--- what has an item is an array
-array_there : (o : Option Data) (list : Items) (text : List ℕ) → list_of o ≡ Some list → Contains (in_order list) (string text) → o ≡ Some (array list)
-array_there None list text is has = absurd (contains_none (string text) (subst (λ l. Contains (in_order l) (string text)) (sym (same_Some no_items list is)) has))
-array_there (Some null) list text is has = cc
-array_there (Some (boolean b)) list text is has = cc
-array_there (Some (number n)) list text is has = cc
-array_there (Some (string s)) list text is has = cc
-array_there (Some (array ds)) list text is has = ap (λ l. Some (array l)) (same_Some ds list is)
-array_there (Some (object ms)) list text is has = cc
 
 -- in a list that is respelled
 names_respelled : (name text : List ℕ) (d found : Data) → IsRespelled name d found → Names name text d → Names name (respelled_text text) found
@@ -63,16 +43,6 @@ names_moved quantities items text d found moved (list, its, has) = (
 
 -- ---- lots
 
-here : {X : Type 0} (x : X) (xs : List X) → Contains (x ∷ xs) x
-here x xs = (0, omega arith, refl)
-
-there : {X : Type 0} (y x : X) (xs : List X) → Contains xs x → Contains (y ∷ xs) x
-there y x xs (k, few, is) = (suc k, omega (arith, few), is)
-
-cases : {X : Type 0} (x y : X) (xs : List X) → Contains (x ∷ xs) y → (x ≡ y) ⊎ Contains xs y
-cases x y xs (zero, few, is) = inl is
-cases x y xs (suc k, few, is) = inr (k, omega (arith, few), is)
-
 -- the lot of an element is among the lots
 among : (list : Items) (e : Data) (lot : List ℕ) (lots : List (List ℕ)) → Contains (in_order list) e → lot_in e ≡ Some lot → lots_in list ≡ Some lots → Contains lots lot
 among no_items e lot lots has is all = absurd (contains_none e has)
@@ -91,6 +61,16 @@ among (item d ds) e lot lots has is all = by (lot_in d) (lots_in ds) refl refl a
 lot_moved : (quantities items lot : List ℕ) (d found : Data) → IsMoved quantities items d found → NamesLot quantities lot d → Names items lot found
 lot_moved quantities items lot d found moved (list, e, its, has, is) =
     moved.named lot (among list e lot moved.lots has is (sym (ap lots_of its) ∙ moved.each))
+
+-- what an event keeps that has its lots
+abbrev HoldsItems : List ℕ → Data → Type 0
+HoldsItems items d = (text : List ℕ) → Names items text d → Names items (respelled_text text) (lotted d)
+
+abbrev HoldsLots : List ℕ → List ℕ → Data → Type 0
+HoldsLots quantities items d = (lot : List ℕ) → NamesLot quantities lot d → Names items (respelled_text lot) (lotted d) ⊎ NamesLot quantities lot (lotted d)
+
+abbrev HoldsParent : Data → Type 0
+HoldsParent d = (text : List ℕ) → member_named (codes "parentID") d ≡ Some (string text) → member_named (codes "parentID") (lotted d) ≡ Some (string (respelled_text text))
 
 -- ---- one list
 
@@ -113,7 +93,7 @@ either : (quantities items lot : List ℕ) (mid found : Data) → (Names items l
 either quantities items lot mid found one other (inl names) = inl (one names)
 either quantities items lot mid found one other (inr names) = inr (other names)
 
-objects : (d : Data) → type_text d ≡ Some (codes "ObjectEvent") → KeepsItems (codes "epcList") d × KeepsLots (codes "quantityList") (codes "epcList") d
+objects : (d : Data) → type_text d ≡ Some (codes "ObjectEvent") → HoldsItems (codes "epcList") d × HoldsLots (codes "quantityList") (codes "epcList") d
 objects d is =
     let filled = lots_are_named.objects d is in
     let mid = with_its_lots d in
@@ -127,7 +107,7 @@ objects d is =
     )
 
 aggregations : (d : Data) → type_text d ≡ Some (codes "AggregationEvent")
-    → KeepsParent d × KeepsItems (codes "childEPCs") d × KeepsLots (codes "childQuantityList") (codes "childEPCs") d
+    → HoldsParent d × HoldsItems (codes "childEPCs") d × HoldsLots (codes "childQuantityList") (codes "childEPCs") d
 aggregations d is =
     let filled = lots_are_named.aggregations d is in
     let mid = with_its_lots d in
@@ -202,7 +182,7 @@ module _ (ii oi : List ℕ) (mid half found : Data) where
   lots_stay : (name lot : List ℕ) → (name ≡ ii → ⊥) → (name ≡ oi → ⊥) → IsRespelled ii mid half → IsRespelled oi half found → NamesLot name lot mid → NamesLot name lot found
   lots_stay name lot a b ins outs names = lots_beside name lot half found (outs.others name b) (lots_beside name lot mid half (ins.others name a) names)
 
-inputs : (d : Data) → type_text d ≡ Some (codes "TransformationEvent") → KeepsItems in_items d × KeepsLots in_quantities in_items d
+inputs : (d : Data) → type_text d ≡ Some (codes "TransformationEvent") → HoldsItems in_items d × HoldsLots in_quantities in_items d
 inputs d is =
     let filled = lots_are_named.transformations d is in
     let mid = with_its_lots d in
@@ -215,7 +195,7 @@ inputs d is =
           (in_lots in_quantities in_items out_quantities out_items d (λ e. cc) (λ e. cc) filled lot names),
     )
 
-outputs : (d : Data) → type_text d ≡ Some (codes "TransformationEvent") → KeepsItems out_items d × KeepsLots out_quantities out_items d
+pub outputs : (d : Data) → type_text d ≡ Some (codes "TransformationEvent") → HoldsItems out_items d × HoldsLots out_quantities out_items d
 outputs d is =
     let filled = lots_are_named.transformations d is in
     let mid = with_its_lots d in
@@ -228,5 +208,109 @@ outputs d is =
           (out_lots in_quantities in_items out_quantities out_items d (λ e. cc) (λ e. cc) filled lot names),
     )
 
+-- ---- and with the lots that it makes, too
+
+keeps_items : (items : List ℕ) (d : Data) → (items ≡ out_items → ⊥) → HoldsItems items d → KeepsItems items d
+keeps_items items d apart holds text names = names_beside items (respelled_text text) (lotted d) (converted_event d) (event_others d items apart) (holds text names)
+
+keeps_outputs : (d : Data) → HoldsItems out_items d → KeepsItems out_items d
+keeps_outputs d holds text names = event_keeps d (respelled_text text) (holds text names)
+
+-- a quantity stays where it was, and a lot is where it is now
+kept_lots : (quantities items : List ℕ) (d : Data) → (quantities ≡ out_items → ⊥)
+    → ((text : List ℕ) → Names items text (lotted d) → Names items text (converted_event d)) → HoldsLots quantities items d → KeepsLots quantities items d
+kept_lots quantities items d apart kept holds lot names = by (holds lot names)
+  where
+    by : Names items (respelled_text lot) (lotted d) ⊎ NamesLot quantities lot (lotted d)
+        → Names items (respelled_text lot) (converted_event d) ⊎ NamesLot quantities lot (converted_event d)
+    by (inl there) = inl (kept (respelled_text lot) there)
+    by (inr there) = inr (lots_beside quantities lot (lotted d) (converted_event d) (event_others d quantities apart) there)
+
+kept_beside : (items : List ℕ) (d : Data) → (items ≡ out_items → ⊥) → (text : List ℕ) → Names items text (lotted d) → Names items text (converted_event d)
+kept_beside items d apart text names = names_beside items text (lotted d) (converted_event d) (event_others d items apart) names
+
+objects_kept : (d : Data) → type_text d ≡ Some (codes "ObjectEvent") → KeepsItems (codes "epcList") d × KeepsLots (codes "quantityList") (codes "epcList") d
+objects_kept d is =
+    let (items, lots) = objects d is in (
+      keeps_items (codes "epcList") d (λ e. cc) items,
+      kept_lots (codes "quantityList") (codes "epcList") d (λ e. cc) (kept_beside (codes "epcList") d (λ e. cc)) lots,
+    )
+
+aggregations_kept : (d : Data) → type_text d ≡ Some (codes "AggregationEvent")
+    → KeepsParent d × KeepsItems (codes "childEPCs") d × KeepsLots (codes "childQuantityList") (codes "childEPCs") d
+aggregations_kept d is =
+    let (parent, items, lots) = aggregations d is in (
+      λ text there. same_member (codes "parentID") (lotted d) (converted_event d) (event_others d (codes "parentID") (λ e. cc)) ∙ parent text there,
+      keeps_items (codes "childEPCs") d (λ e. cc) items,
+      kept_lots (codes "childQuantityList") (codes "childEPCs") d (λ e. cc) (kept_beside (codes "childEPCs") d (λ e. cc)) lots,
+    )
+
+inputs_kept : (d : Data) → type_text d ≡ Some (codes "TransformationEvent") → KeepsItems in_items d × KeepsLots in_quantities in_items d
+inputs_kept d is =
+    let (items, lots) = inputs d is in (
+      keeps_items in_items d (λ e. cc) items,
+      kept_lots in_quantities in_items d (λ e. cc) (kept_beside in_items d (λ e. cc)) lots,
+    )
+
+outputs_kept : (d : Data) → type_text d ≡ Some (codes "TransformationEvent") → KeepsItems out_items d × KeepsLots out_quantities out_items d
+outputs_kept d is =
+    let (items, lots) = outputs d is in (
+      keeps_outputs d items,
+      kept_lots out_quantities out_items d (λ e. cc) (event_keeps d) lots,
+    )
+
 pub nothing_gets_lost : NothingGetsLost
-nothing_gets_lost = record { objects = objects; aggregations = aggregations; inputs = inputs; outputs = outputs }
+nothing_gets_lost = record { objects = objects_kept; aggregations = aggregations_kept; inputs = inputs_kept; outputs = outputs_kept }
+
+-- ---- the type of an event stays
+
+type_of_object : (d : Data) → type_text d ≡ Some (codes "ObjectEvent") → type_text (lotted d) ≡ type_text d
+type_of_object d is =
+    let mid = with_its_lots d in
+    let filled = type_filled (codes "quantityList") (codes "epcList") d (λ e. cc) (λ e. cc) (lots_are_named.objects d is) in
+    same_type mid (lotted d) ((events_are_respelled.objects mid (filled ∙ is)).others (codes "type") (λ e. cc)) ∙ filled
+
+type_of_aggregation : (d : Data) → type_text d ≡ Some (codes "AggregationEvent") → type_text (lotted d) ≡ type_text d
+type_of_aggregation d is =
+    let mid = with_its_lots d in
+    let filled = type_filled (codes "childQuantityList") (codes "childEPCs") d (λ e. cc) (λ e. cc) (lots_are_named.aggregations d is) in
+    let (half, parents, children) = events_are_respelled.aggregations mid (filled ∙ is) in
+    same_type half (lotted d) (children.others (codes "type") (λ e. cc)) ∙ same_type mid half (parents.others (codes "type") (λ e. cc)) ∙ filled
+
+type_of_transformation : (d : Data) → type_text d ≡ Some (codes "TransformationEvent") → type_text (lotted d) ≡ type_text d
+type_of_transformation d is =
+    let mid = with_its_lots d in
+    let filled = type_both d (lots_are_named.transformations d is) in
+    let (half, ins, outs) = events_are_respelled.transformations mid (filled ∙ is) in
+    same_type half (lotted d) (outs.others (codes "type") (λ e. cc)) ∙ same_type mid half (ins.others (codes "type") (λ e. cc)) ∙ filled
+
+pub type_stays : (d : Data) → type_text (lotted d) ≡ type_text d
+unfolding with_its_lots with_spelled_lots spells_otherwise
+type_stays d = of_type (type_text d) refl
+  where
+    is_named : (text name : List ℕ) → type_text d ≡ Some text → bytes_eq text name ≡ true → type_text d ≡ Some name
+    is_named text name t e = t ∙ ap Some ((bytes_eq-Decides text name).0 e)
+
+    of_transformation : (text : List ℕ) (b : Bool) → type_text d ≡ Some text → bytes_eq text (codes "ObjectEvent") ≡ false → bytes_eq text (codes "AggregationEvent") ≡ false
+        → bytes_eq text (codes "TransformationEvent") ≡ b → type_text (lotted d) ≡ type_text d
+    of_transformation text true t o a e = type_of_transformation d (is_named text (codes "TransformationEvent") t e)
+    of_transformation text false t o a e =
+        let mid : with_its_lots d ≡ d = rw (t, o, a, e) refl in
+        let same : with_spelled_lots d ≡ d = rw (t, o, a, e) refl in
+        ap (λ v. type_text (with_spelled_lots v)) mid ∙ ap type_text same
+
+    of_aggregation : (text : List ℕ) (b : Bool) → type_text d ≡ Some text → bytes_eq text (codes "ObjectEvent") ≡ false → bytes_eq text (codes "AggregationEvent") ≡ b
+        → type_text (lotted d) ≡ type_text d
+    of_aggregation text true t o a = type_of_aggregation d (is_named text (codes "AggregationEvent") t a)
+    of_aggregation text false t o a = of_transformation text (bytes_eq text (codes "TransformationEvent")) t o a refl
+
+    of_object : (text : List ℕ) (b : Bool) → type_text d ≡ Some text → bytes_eq text (codes "ObjectEvent") ≡ b → type_text (lotted d) ≡ type_text d
+    of_object text true t o = type_of_object d (is_named text (codes "ObjectEvent") t o)
+    of_object text false t o = of_aggregation text (bytes_eq text (codes "AggregationEvent")) t o refl
+
+    of_type : (o : Option (List ℕ)) → type_text d ≡ o → type_text (lotted d) ≡ type_text d
+    of_type None t =
+        let mid : with_its_lots d ≡ d = rw t refl in
+        let same : with_spelled_lots d ≡ d = rw t refl in
+        ap (λ v. type_text (with_spelled_lots v)) mid ∙ ap type_text same
+    of_type (Some text) t = of_object text (bytes_eq text (codes "ObjectEvent")) t refl

@@ -65,7 +65,7 @@ has_lots : (o : Option Data) (lot : List ℕ) (lots : List (List ℕ)) → lots_
 has_lots None lot lots is = cc
 has_lots (Some found) lot lots is = (found, refl)
 
-no_texts : (list : Items) → and_texts list [] ≡ list
+pub no_texts : (list : Items) → and_texts list [] ≡ list
 no_texts list = ap items_of (append-nil (in_order list)) ∙ items_back list
 
 nothing_moved : (quantities items : List ℕ) (d found : Data) → lots_of (member_named quantities d) ≡ Some [] → found ≡ d → IsMoved quantities items d found

@@ -20,8 +20,10 @@ use Rattle.event_json.specs.Sites.{Site}
 use Rattle.event_json.specs.Untraced.{in_order, is_text}
 use Rattle.document_convert.specs.Quantities.{has_by, has_elements, has_quantities, is_filled, lots_of, moved, moved_by, with_its_lots, with_lots}
 use Rattle.document_convert.specs.LotLaws.{ReadStaysWithLots, WithoutStays}
-use Rattle.document_convert.specs.Lotted.{document_with_lots, has_lots}
+use Rattle.document_convert.specs.LotEvents.{has_unit_lots}
+use Rattle.document_convert.specs.Lotted.{document_with_lots, has_lots, lotted}
 use Rattle.document_convert.specs.Respelled.{spells_otherwise, with_spelled_lots}
+use Rattle.document_convert.proofs.MadeLots.{no_unit_lots, none_behind}
 use Rattle.document_convert.proofs.ReadLaws.{ReadList, read_list, same_Ok}
 use Rattle.document_convert.proofs.Settled.{is_document}
 
@@ -220,7 +222,7 @@ list_none sites n (item d ds) found is = by (event_of sites d) refl (λ es. list
 -- ---- a document
 
 -- where it is no EPCISDocument it is an event alone
-alone_list : (d : Data) (items : Items) → event_list d ≡ Ok items → is_text is_document (type_text d) ≡ false → items ≡ item d no_items
+pub alone_list : (d : Data) (items : Items) → event_list d ≡ Ok items → is_text is_document (type_text d) ≡ false → items ≡ item d no_items
 unfolding event_list
 alone_list d items is other = of_type (type_text d) refl other
   where
@@ -235,7 +237,7 @@ alone_list d items is other = of_type (type_text d) refl other
     of_type (Some text) s o = of_name text (is_some (type_named text)) s o refl
 
 -- and where it is one it has the list
-its_list : (d : Data) (items : Items) → event_list d ≡ Ok items → is_text is_document (type_text d) ≡ true → listed d ≡ Some items
+pub its_list : (d : Data) (items : Items) → event_list d ≡ Ok items → is_text is_document (type_text d) ≡ true → listed d ≡ Some items
 unfolding event_list
 its_list d items is named = of_type (type_text d) refl named
   where
@@ -249,37 +251,49 @@ its_list d items is named = of_type (type_text d) refl named
     of_type None s n = cc
     of_type (Some text) s n = of_list text (listed d) s n refl
 
--- what no event spells otherwise, and has no quantities, has no lots
-none_of_both : (events : List Data) → list_any has_quantities events ≡ false → list_any spells_otherwise events ≡ false → list_any has_lots events ≡ false
-none_of_both [] a b = refl
-none_of_both (e ∷ es) a b =
+-- an event without quantities that spells no lot otherwise, and tells none of units, has no lots
+none_of_all : (events : List Data) → list_any has_quantities events ≡ false → list_any spells_otherwise events ≡ false → list_any has_unit_lots events ≡ false
+    → list_any has_lots events ≡ false
+none_of_all [] a b c = refl
+none_of_all (e ∷ es) a b c =
     let first = both_none (has_quantities e) (list_any has_quantities es) a in
     let second = both_none (spells_otherwise e) (list_any spells_otherwise es) b in
-    rw (first.0, second.0) (none_of_both es first.1 second.1)
+    let third = both_none (has_unit_lots e) (list_any has_unit_lots es) c in
+    rw (first.0, second.0, third.0) (none_of_all es first.1 second.1 third.1)
+
+lotted_stays : (d : Data) → has_quantities d ≡ false → spells_otherwise d ≡ false → lotted d ≡ d
+unfolding with_spelled_lots
+lotted_stays d none also =
+    let same = without_stays d none in
+    rw (same, also) refl
 
 pub without_lots_stays : WithoutStays
-unfolding with_spelled_lots
 without_lots_stays d none =
-    let parts = both_none (has_quantities d) (spells_otherwise d) none in
-    let same = without_stays d parts.0 in
-    rw (same, parts.1) refl
+    let parts = both_none (has_quantities d || spells_otherwise d) (has_unit_lots d) none in
+    let first = both_none (has_quantities d) (spells_otherwise d) parts.0 in
+    none_behind d (no_unit_lots d parts.1) ∙ ap (λ v. v ∷ []) (lotted_stays d first.0 first.1)
 
-read_stays : (sites : List Site) (d : Data) (r : ReadList sites d) → list_any spells_otherwise (in_order r.items) ≡ false → document_with_lots d ≡ d
+read_stays : (sites : List Site) (d : Data) (r : ReadList sites d) → list_any spells_otherwise (in_order r.items) ≡ false → list_any has_unit_lots (in_order r.items) ≡ false
+    → document_with_lots d ≡ d
 unfolding document_with_lots
-read_stays sites d r other = by (is_text is_document (type_text d)) refl
+read_stays sites d r other units = by (is_text is_document (type_text d)) refl
   where
+    quantities : list_any has_quantities (in_order r.items) ≡ false
+    quantities = list_none sites 1 r.items r.found r.read
+
     none : list_any has_lots (in_order r.items) ≡ false
-    none = none_of_both (in_order r.items) (list_none sites 1 r.items r.found r.read) other
+    none = none_of_all (in_order r.items) quantities other units
 
     by : (b : Bool) → is_text is_document (type_text d) ≡ b → document_with_lots d ≡ d
     by true named = rw (named, its_list d r.items r.list named, none) refl
     by false alone =
         let same = alone_list d r.items r.list alone in
-        let first : list_any has_lots (d ∷ []) ≡ false = ap (λ i. list_any has_lots (in_order i)) (sym same) ∙ none in
-        rw alone (without_lots_stays d (both_none (has_lots d) false first).0)
+        let of_one : (p : Data → Bool) → list_any p (in_order r.items) ≡ false → p d ≡ false =
+        λ p is. (both_none (p d) false (ap (λ i. list_any p (in_order i)) (sym same) ∙ is)).0 in
+        rw (alone, of_one has_unit_lots units) (lotted_stays d (of_one has_quantities quantities) (of_one spells_otherwise other))
 
 pub read_stays_with_lots : ReadStaysWithLots
-read_stays_with_lots sites d doc events is list other =
+read_stays_with_lots sites d doc events is list other units =
     let r = read_list sites d doc is in
     let same : events ≡ r.items = same_Ok _ _ (sym list ∙ r.list) in
-    read_stays sites d r (ap (λ i. list_any spells_otherwise (in_order i)) (sym same) ∙ other)
+    read_stays sites d r (ap (λ i. list_any spells_otherwise (in_order i)) (sym same) ∙ other) (ap (λ i. list_any has_unit_lots (in_order i)) (sym same) ∙ units)

@@ -54,10 +54,10 @@ passed Equal a b e = absurd (true≢false e)
 passed Greater a b e = refl
 
 -- a member of another name is passed over
-skips : (q l : List ℕ) (d : Data) (ms : Members) → bytes_eq q l ≡ false → get_member q (member l d ms) ≡ get_member q ms
+pub skips : (q l : List ℕ) (d : Data) (ms : Members) → bytes_eq q l ≡ false → get_member q (member l d ms) ≡ get_member q ms
 skips q l d ms is = passed (slice_cmp nat_cmp q l) (get_member q ms) (Some d) (is_eq-slice_cmp q l ∙ is)
 
-differ : (a b : List ℕ) → (a ≡ b → ⊥) → bytes_eq a b ≡ false
+pub differ : (a b : List ℕ) → (a ≡ b → ⊥) → bytes_eq a b ≡ false
 differ a b other = by (bytes_eq a b) refl
   where
     by : (t : Bool) → bytes_eq a b ≡ t → t ≡ false

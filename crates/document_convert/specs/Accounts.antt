@@ -41,13 +41,19 @@ quantities d = elements_from 0 (listed_events d)
 -- ---- all documents
 
 abbrev pub none_yet : Account
-none_yet = record { written = 0; events = 0; lots = 0; left = 0 }
+none_yet = record { written = 0; events = 0; lots = 0; derived = 0; left = 0 }
 
--- with a document that had so many quantities, as it was written: each of them that isn't left is a lot among the items
-abbrev pub with_document : Account → ℕ → Data → Account
-with_document a had d = record {
+-- how many events a document has
+abbrev pub event_count : Data → ℕ
+event_count d = length (listed_events d)
+
+-- with a document that had so many quantities and so many events, as it was written: each of the quantities that isn't left is a lot among
+-- the items, and each event more was derived
+abbrev pub with_document : Account → ℕ → ℕ → Data → Account
+with_document a had came d = record {
   written = up a.written 1;
-  events = up a.events (length (listed_events d));
+  events = up a.events (event_count d);
   lots = up a.lots (had - quantities d);
+  derived = up a.derived (event_count d - came);
   left = up a.left (count_by has_quantities (listed_events d));
 }

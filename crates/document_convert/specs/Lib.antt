@@ -3,9 +3,13 @@ pub mod Documents
 pub mod Laws
 pub mod Lots
 pub mod Quantities
-pub mod LotLaws
 pub mod Respelled
+pub mod UnitLots
+pub mod SeenLots
+pub mod LotEvents
 pub mod Lotted
+pub mod LotLaws
+pub mod UnitLaws
 pub mod Texts
 pub mod Accounts
 pub mod Converted

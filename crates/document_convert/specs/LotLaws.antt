@@ -1,5 +1,5 @@
 -- What becomes of lots, in the words of the one who recalls one.
-use Rattle.std.specs.Prelude.{◌≡◌, ◌⊎◌, ℕ, false, codes, Contains, List, [], map, None, Some, Ok}
+use Rattle.std.specs.Prelude.{◌≡◌, ◌⊎◌, ℕ, false, codes, Contains, List, [], ◌∷◌, map, None, Some, Ok}
 use Rattle.std.specs.List.{list_any}
 use Rattle.event_json.specs.Checks.{type_text}
 use Rattle.event_json.specs.Untraced.{in_order}
@@ -16,7 +16,8 @@ use Rattle.event_json.specs.declared.documents.Doc.{Doc}
 use Rattle.document_convert.specs.Lots.{SpellsLot, lot_of, lot_text}
 use Rattle.document_convert.specs.Quantities.{and_texts, list_of, lot_in, lots_of, moved, with_its_lots}
 use Rattle.document_convert.specs.Respelled.{respelled_item, respelled_text, spells_otherwise, with_spelled_lots}
-use Rattle.document_convert.specs.Lotted.{document_with_lots, has_lots, lotted}
+use Rattle.document_convert.specs.LotEvents.{has_unit_lots}
+use Rattle.document_convert.specs.Lotted.{converted_event, document_with_lots, events_with_lots, has_lots}
 
 -- ---- the spelling of a lot
 
@@ -107,15 +108,15 @@ NamesLot quantities lot d = (list : Items) × (e : Data) × (member_named quanti
 
 -- each item of a list is in this list, by its text, or by the one spelling of the lot that it spells
 abbrev pub KeepsItems : List ℕ → Data → Type 0
-KeepsItems items d = (text : List ℕ) → Names items text d → Names items (respelled_text text) (lotted d)
+KeepsItems items d = (text : List ℕ) → Names items text d → Names items (respelled_text text) (converted_event d)
 
 -- each lot of a list of quantities is in the list of items of the same role, or it is in the list of quantities as before
 abbrev pub KeepsLots : List ℕ → List ℕ → Data → Type 0
-KeepsLots quantities items d = (lot : List ℕ) → NamesLot quantities lot d → Names items (respelled_text lot) (lotted d) ⊎ NamesLot quantities lot (lotted d)
+KeepsLots quantities items d = (lot : List ℕ) → NamesLot quantities lot d → Names items (respelled_text lot) (converted_event d) ⊎ NamesLot quantities lot (converted_event d)
 
 -- and so is a parent
 abbrev pub KeepsParent : Data → Type 0
-KeepsParent d = (text : List ℕ) → member_named (codes "parentID") d ≡ Some (string text) → member_named (codes "parentID") (lotted d) ≡ Some (string (respelled_text text))
+KeepsParent d = (text : List ℕ) → member_named (codes "parentID") d ≡ Some (string text) → member_named (codes "parentID") (converted_event d) ≡ Some (string (respelled_text text))
 
 -- NOTHING GETS LOST: each text that an event names as an item is named by its conversion, in the list of the same role, and so is each lot.
 pub record NothingGetsLost : Type 0 where
@@ -127,11 +128,11 @@ pub record NothingGetsLost : Type 0 where
   pub outputs : (d : Data) → type_text d ≡ Some (codes "TransformationEvent")
       → KeepsItems (codes "outputEPCList") d × KeepsLots (codes "outputQuantityList") (codes "outputEPCList") d
 
--- an event does not change that has no quantities, and names no lot otherwise than by its one spelling
+-- an event does not change, and none is added, that has no quantities, names no lot otherwise than by its one spelling, and tells none of units
 abbrev pub WithoutStays : Type 0
-WithoutStays = (d : Data) → has_lots d ≡ false → lotted d ≡ d
+WithoutStays = (d : Data) → has_lots d ≡ false → events_with_lots d ≡ d ∷ []
 
--- A document that a capture reads has no quantities: it stays as it is where no event of it spells a lot otherwise.
+-- A document that a capture reads has no quantities: it stays as it is where no event of it spells a lot otherwise, or tells one of units.
 abbrev pub ReadStaysWithLots : Type 0
 ReadStaysWithLots = (sites : List Site) (d : Data) (doc : Doc) (events : Items) → document_of sites d ≡ Ok doc → event_list d ≡ Ok events
-    → list_any spells_otherwise (in_order events) ≡ false → document_with_lots d ≡ d
+    → list_any spells_otherwise (in_order events) ≡ false → list_any has_unit_lots (in_order events) ≡ false → document_with_lots d ≡ d

@@ -4,7 +4,7 @@ ghost use Rattle.std.specs.Prelude.{◌≡◌, count_by, length, option_map};
 ghost use Rattle.serde_json.specs.View.{items_view, view};
 ghost use Rattle.event_json.specs.Members.{member_named};
 ghost use Rattle.event_json.specs.Untraced.{in_order, listed_events};
-ghost use Rattle.document_convert.specs.Accounts.{elements_by, elements_in, elements_of, elements_from, none_yet, quantities, with_document};
+ghost use Rattle.document_convert.specs.Accounts.{elements_by, elements_in, elements_of, elements_from, event_count, none_yet, quantities, with_document};
 ghost use Rattle.document_convert.specs.Quantities.{has_quantities};
 
 use crate::event_lists::events_of;
@@ -18,10 +18,12 @@ use std::alloc::{AllocError, Global};
 pub struct Account {
     /// The documents that were written, one a line.
     pub written: u64,
-    /// Their events.
+    /// Their events, derived ones too.
     pub events: u64,
     /// The elements of lists of quantities that are lots among the items now.
     pub lots: u64,
+    /// The events that were added: each leads from a lot to its units.
+    pub derived: u64,
     /// The events that still have quantities, with which a capture refuses them.
     pub left: u64,
 }
@@ -35,6 +37,7 @@ impl Account {
             written: 0,
             events: 0,
             lots: 0,
+            derived: 0,
             left: 0,
         }
     }
@@ -45,11 +48,12 @@ impl Account {
             written: self.written.saturating_add(more.written),
             events: self.events.saturating_add(more.events),
             lots: self.lots.saturating_add(more.lots),
+            derived: self.derived.saturating_add(more.derived),
             left: self.left.saturating_add(more.left),
         }
     }
 
-    /// The line that tells it, as `note: written 1 events 3 lots 2 left 0`, with its LF.
+    /// The line that tells it, as `note: written 1 events 3 lots 2 derived 1 left 0`, with its LF.
     ///
     /// # Errors
     /// Where memory runs out.
@@ -58,10 +62,11 @@ impl Account {
             written,
             events,
             lots,
+            derived,
             left,
         } = self;
         let mut text = format!(in alloc; "note: written {written} events {events}")?;
-        text.push_str(format!(in alloc; " lots {lots} left {left}\n")?.as_str())?;
+        text.push_str(format!(in alloc; " lots {lots} derived {derived} left {left}\n")?.as_str())?;
         Ok(text)
     }
 
@@ -71,26 +76,34 @@ impl Account {
     /// Where memory runs out.
     pub fn json(self, alloc: Global) -> Result<String, AllocError> {
         let account =
-            json!(in alloc; {"events": self.events, "left": self.left, "lots": self.lots, "written": self.written})?;
+            json!(in alloc; {"derived": self.derived, "events": self.events, "left": self.left, "lots": self.lots, "written": self.written})?;
         let mut line = json!(in alloc; {"account": account})?.to_string(alloc)?;
         line.push('\n')?;
         Ok(line)
     }
 
-    /// With a document more, that had so many quantities, as it was written.
-    pub(crate) fn with(self, had: u64, document: &Value) -> Account
-        ensures { result ≡ with_document self had (view document.now) }
+    /// With a document more, that had so many quantities and so many events, as it was written.
+    pub(crate) fn with(self, had: u64, came: u64, document: &Value) -> Account
+        ensures { result ≡ with_document self had came (view document.now) }
     {
-        let events = events_of(document);
+        let now = event_count(document);
         Account {
             written: self.written.saturating_add(1),
-            events: self.events.saturating_add(count(events)),
+            events: self.events.saturating_add(now),
             lots: self
                 .lots
                 .saturating_add(had.saturating_sub(quantities(document))),
-            left: self.left.saturating_add(left(events)),
+            derived: self.derived.saturating_add(now.saturating_sub(came)),
+            left: self.left.saturating_add(left(events_of(document))),
         }
     }
+}
+
+/// How many events a document has.
+pub(crate) fn event_count(document: &Value) -> u64
+    ensures { result ≡ event_count (view document.now) }
+{
+    count(events_of(document))
 }
 
 /// How many events these are.

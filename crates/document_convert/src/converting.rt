@@ -6,7 +6,7 @@ ghost use Rattle.serde_json.specs.View.{view};
 ghost use Rattle.document_convert.specs.Converted.{AreConverted, IsConverted, IsLineOf, as_asked};
 ghost use Rattle.document_convert.specs.Texts.{Piece, begins, by_lines, first_number, line_pieces, lines_of, no_document, no_value, piece_of, pieces_at};
 
-use crate::accounts::{Account, quantities};
+use crate::accounts::{Account, event_count, quantities};
 use crate::documents::documents_in;
 use crate::lotted::document_with_lots;
 use crate::texts::{is_blank, lines_of, unmarked, value_of};
@@ -51,8 +51,8 @@ pub fn convert(alloc: Global, text: &[u8], lots: bool) -> Result<Converted, Allo
     // value, or has one in each line that isn't blank, where the first of them is one. A line is JSON without a space,
     // and is read back as its document's value. What is no document is told, in order, by its line and its place in its
     // array.
-    // It is counted how many documents and events were written, how many quantities became lots, and how many events
-    // still have some.
+    // It is counted how many documents and events were written, how many quantities became lots, how many events were
+    // derived, and how many events still have quantities.
     // Not covered: a document that nests more than 127 deep isn't read back; how the account is printed, and added up
     // over several texts.
     ensures { IfOk result (IsConverted lots text.now) }
@@ -241,9 +241,10 @@ impl Converted {
             → AreConverted lots (pieces ++ Ok (view document) ∷ []) self.new) }
     {
         let had = quantities(&document);
+        let came = event_count(&document);
         let document = as_asked(alloc, document, lots)?;
         push_text(alloc, &mut self.lines, &document)?;
-        self.account = self.account.with(had, &document);
+        self.account = self.account.with(had, came, &document);
         Ok(())
     }
 }

@@ -1,6 +1,7 @@
 //! Laws of a value's document, each named by a function with an empty body whose contract is the law.
 
 ghost use Rattle.document_convert.specs.LotLaws.{EventsAreRespelled, LotsAreMoved, LotsAreNamed, LotsStayApart, NothingGetsLost, ReadStaysWithLots, SpelledAreLots, SpellingsBecomeOne, TextsAreRespelled, WithoutStays};
+ghost use Rattle.document_convert.specs.UnitLaws.{LotsAreMade, LotsAreNumbered, NothingIsInvented, UnitsAreLed, WithoutLotsAsBefore};
 ghost use Rattle.document_convert.specs.Laws.{EventsAreKept, HoldersAreDocuments, HoldersAreThese, MembersAreKept, ReadIsUnchanged, SecondChangesNothing, SurroundingsAreKept, TypesAreKept, TypesAreThese, TypesAreTold};
 
 /// The type of a value is its `type`, else its `@type`, else its `isA`.
@@ -72,7 +73,8 @@ pub fn lots_are_respelled()
     ensures events { EventsAreRespelled }
 {}
 
-/// A document that a capture reads has no quantities, and stays as it is where no event of it spells a lot otherwise.
+/// A document that a capture reads has no quantities, and stays as it is where no event of it spells a lot otherwise, or
+/// tells the lot of units.
 pub fn read_stays_with_lots()
     ensures events { WithoutStays }
     ensures documents { ReadStaysWithLots }
@@ -82,4 +84,31 @@ pub fn read_stays_with_lots()
 /// and so is each lot of its quantities, or the event keeps these.
 pub fn nothing_gets_lost()
     ensures { NothingGetsLost }
+{}
+
+/// Each unit of a lot that an event's `ilmd` names has an event in the converted document that leads from the lot's
+/// spelling to it.
+pub fn units_are_led()
+    ensures { UnitsAreLed }
+{}
+
+/// The converted document has each event, in order, and right behind it only events that were derived of it: each leads
+/// from one lot that the event's `ilmd` names to units of the event that have the lot's GTIN.
+pub fn nothing_is_invented()
+    ensures { NothingIsInvented }
+{}
+
+/// An event is written as its lots of quantities have it, but that a transformation makes the lots of its units, too.
+pub fn lots_are_made()
+    ensures { LotsAreMade }
+{}
+
+/// An event whose `ilmd` names no lot, or that has no units, is written as before, and nothing behind it.
+pub fn without_lots_as_before()
+    ensures { WithoutLotsAsBefore }
+{}
+
+/// The events of an event's lots have its identifier with their number behind it, where it has one.
+pub fn lots_are_numbered()
+    ensures { LotsAreNumbered }
 {}

@@ -7,12 +7,14 @@ mod converting;
 mod documents;
 mod event_lists;
 pub mod laws;
+mod lot_events;
 mod lots;
 mod lotted;
 mod quantities;
 mod respelling;
 mod texts;
 mod types;
+mod unit_lots;
 
 pub use accounts::Account;
 pub use converting::{Converted, Refused, convert};

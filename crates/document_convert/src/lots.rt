@@ -44,25 +44,25 @@ fn push_number(text: &mut String, number: &[u8]) -> Result<(), AllocError>
     Ok(())
 }
 
-/// Appends the digits of a GTIN.
-fn push_digits(text: &mut String, digits: &[u8]) -> Result<(), AllocError>
+/// The digits of a GTIN as a text.
+pub(crate) fn digits_text(alloc: Global, digits: &[u8]) -> Result<String, AllocError>
     requires { IsTrue (list_all is_digit digits.now) }
-    ensures { OnOk result (string_bytes text.new ≡ string_bytes text.old ++ digits.now) }
+    ensures { IfOk result (λ text. string_bytes text ≡ digits.now) }
 {
+    let mut text = String::new(alloc);
     for digit in digits {
         text.push(char::from(*digit))?;
     }
-    Ok(())
+    Ok(text)
 }
 
 /// The one spelling of a lot.
-fn lot_text(alloc: Global, gtin: &[u8], number: &[u8]) -> Result<String, AllocError>
-    requires { IsTrue (list_all is_digit gtin.now) }
+pub(crate) fn lot_text(alloc: Global, gtin: &str, number: &[u8]) -> Result<String, AllocError>
     ensures { IfOk result (λ text. string_bytes text ≡ lot_text gtin.now number.now) }
 {
     let mut text = String::new(alloc);
     text.push_str("https://id.gs1.org/01/")?;
-    push_digits(&mut text, gtin)?;
+    text.push_str(gtin)?;
     text.push_str("/10/")?;
     push_number(&mut text, number)?;
     Ok(text)
@@ -265,12 +265,23 @@ fn unit_of(alloc: Global, text: &str) -> Result<Option<String>, AllocError>
     }
 }
 
+/// The one spelling of the lot with these digits.
+fn lot_of_digits(alloc: Global, gtin: &[u8], number: &[u8]) -> Result<String, AllocError>
+    requires { IsTrue (list_all is_digit gtin.now) }
+    ensures { IfOk result (λ text. string_bytes text ≡ lot_text gtin.now number.now) }
+{
+    let gtin = digits_text(alloc, gtin)?;
+    lot_text(alloc, gtin.as_str(), number)
+}
+
 /// The one spelling of the lot of a unit.
 fn lot_of_unit(alloc: Global, unit: &Epc) -> Result<Option<String>, AllocError>
     ensures { IfOk result (λ lot. option_map string_bytes lot ≡ lot_of_key unit.now) }
 {
     match unit.form() {
-        EpcForm::Item { gtin, serial } => Ok(Some(lot_text(alloc, gtin, serial.as_bytes())?)),
+        EpcForm::Item { gtin, serial } => {
+            Ok(Some(lot_of_digits(alloc, gtin, serial.as_bytes())?))
+        }
         EpcForm::Sscc(_) => Ok(None),
         EpcForm::Other(_) => Ok(None),
     }

@@ -60,7 +60,11 @@ fn lots_of(alloc: Global, event: &Value, name: &str) -> Result<Option<Vec<String
 }
 
 /// A copy of the array of a member, which is empty where it is absent; `None` where it is no array.
-fn list_of(alloc: Global, event: &Value, name: &str) -> Result<Option<Vec<Value>>, AllocError>
+pub(crate) fn list_of(
+    alloc: Global,
+    event: &Value,
+    name: &str,
+) -> Result<Option<Vec<Value>>, AllocError>
     ensures { IfOk result (λ list. option_map (λ l. items_view l.items) list
         ≡ list_of (member_named name.now (view event.now))) }
 {
@@ -96,7 +100,7 @@ fn push_texts(list: &mut Vec<Value>, texts: Vec<String>) -> Result<(), AllocErro
 }
 
 /// An array of these values, and then these texts.
-fn and_texts(mut list: Vec<Value>, texts: Vec<String>) -> Result<Value, AllocError>
+pub(crate) fn and_texts(mut list: Vec<Value>, texts: Vec<String>) -> Result<Value, AllocError>
     ensures { IfOk result (λ v. view v
         ≡ array (and_texts (items_view list.items) (map string_bytes texts.items))) }
 {

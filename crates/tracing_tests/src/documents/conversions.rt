@@ -214,6 +214,30 @@ fn quantities(rt: HostRuntime) -> Result<(), Fail> {
     Ok(())
 }
 
+#[test]
+fn units(rt: HostRuntime) -> Result<(), Fail> {
+    let rows = [
+        (
+            r#"{"type":"ObjectEvent","eventID":"c","eventTime":"t","eventTimeZoneOffset":"o","epcList":["urn:epc:id:sgtin:4012345.012345.1","x","https://id.gs1.org/01/09521321000179/21/7","https://id.gs1.org/01/04012345123456/21/2"],"ilmd":{"cbvmda:lotNumber":["A/B","A/B",7]}}"#,
+            r#"{"epcisBody":{"eventList":[{"epcList":["urn:epc:id:sgtin:4012345.012345.1","x","https://id.gs1.org/01/09521321000179/21/7","https://id.gs1.org/01/04012345123456/21/2"],"eventID":"c","eventTime":"t","eventTimeZoneOffset":"o","ilmd":{"cbvmda:lotNumber":["A/B","A/B",7]},"type":"ObjectEvent"},{"eventID":"c#lot1","eventTime":"t","eventTimeZoneOffset":"o","inputEPCList":["https://id.gs1.org/01/04012345123456/10/A%2FB"],"outputEPCList":["urn:epc:id:sgtin:4012345.012345.1","https://id.gs1.org/01/04012345123456/21/2"],"type":"TransformationEvent"},{"eventID":"c#lot2","eventTime":"t","eventTimeZoneOffset":"o","inputEPCList":["https://id.gs1.org/01/09521321000179/10/A%2FB"],"outputEPCList":["https://id.gs1.org/01/09521321000179/21/7"],"type":"TransformationEvent"}]},"type":"EPCISDocument"}"#,
+        ),
+        (
+            r#"{"type":"EPCISDocument","epcisBody":{"eventList":[{"type":"TransformationEvent","inputEPCList":["in"],"outputEPCList":["urn:epc:id:sgtin:4012345.012345.1"],"outputQuantityList":[{"epcClass":"urn:epc:class:lgtin:4012345.012345.C"}],"ilmd":{"lotNumber":"B","cbvmda:lotNumber":"A"}},{"type":"ObjectEvent","epcList":["x"],"ilmd":{"lotNumber":"B"}}]}}"#,
+            r#"{"epcisBody":{"eventList":[{"ilmd":{"cbvmda:lotNumber":"A","lotNumber":"B"},"inputEPCList":["in"],"outputEPCList":["urn:epc:id:sgtin:4012345.012345.1","https://id.gs1.org/01/04012345123456/10/C","https://id.gs1.org/01/04012345123456/10/A","https://id.gs1.org/01/04012345123456/10/B"],"type":"TransformationEvent"},{"inputEPCList":["https://id.gs1.org/01/04012345123456/10/A"],"outputEPCList":["urn:epc:id:sgtin:4012345.012345.1"],"type":"TransformationEvent"},{"inputEPCList":["https://id.gs1.org/01/04012345123456/10/B"],"outputEPCList":["urn:epc:id:sgtin:4012345.012345.1"],"type":"TransformationEvent"},{"epcList":["x"],"ilmd":{"lotNumber":"B"},"type":"ObjectEvent"}]},"type":"EPCISDocument"}"#,
+        ),
+        (
+            r#"{"type":"ObjectEvent","epcList":["urn:epc:id:sgtin:4012345.012345.1"],"ilmd":{"lotNumber":["a b","123456789012345678901",""]}}"#,
+            r#"{"epcList":["urn:epc:id:sgtin:4012345.012345.1"],"ilmd":{"lotNumber":["a b","123456789012345678901",""]},"type":"ObjectEvent"}"#,
+        ),
+        (
+            r#"{"type":"AggregationEvent","childEPCs":["urn:epc:id:sgtin:4012345.012345.1"],"ilmd":{"lotNumber":"A"}}"#,
+            r#"{"childEPCs":["urn:epc:id:sgtin:4012345.012345.1"],"ilmd":{"lotNumber":"A"},"type":"AggregationEvent"}"#,
+        ),
+    ];
+    assert!(rt; are_lotted(rt.alloc(), &rows)?);
+    Ok(())
+}
+
 /// The lines that a text is turned into, and then what is none of it: its line, its number and its fault.
 fn written(alloc: Global, text: &str, lots: bool) -> Result<String, Fail> {
     let converted = convert(alloc, text.as_bytes(), lots)?;
@@ -233,20 +257,23 @@ fn texts(rt: HostRuntime) -> Result<(), Fail> {
     let rows = [
         (
             "\u{feff} {\"type\":\"ObjectEvent\"}\n",
-            "{\"type\":\"ObjectEvent\"}\nnote: written 1 events 1 lots 0 left 0\n",
+            "{\"type\":\"ObjectEvent\"}\nnote: written 1 events 1 lots 0 derived 0 left 0\n",
         ),
         (
             "\n{\"isA\":\"ObjectEvent\"}\r\n \n{\n[7,{\"type\":\"TransactionEvent\"}]",
-            "{\"isA\":\"ObjectEvent\",\"type\":\"ObjectEvent\"}\n{\"type\":\"TransactionEvent\"}\n4 0 Syntax\n5 1 NotDocument\nnote: written 2 events 2 lots 0 left 0\n",
+            "{\"isA\":\"ObjectEvent\",\"type\":\"ObjectEvent\"}\n{\"type\":\"TransactionEvent\"}\n4 0 Syntax\n5 1 NotDocument\nnote: written 2 events 2 lots 0 derived 0 left 0\n",
         ),
-        ("", "0 0 Syntax\nnote: written 0 events 0 lots 0 left 0\n"),
+        (
+            "",
+            "0 0 Syntax\nnote: written 0 events 0 lots 0 derived 0 left 0\n",
+        ),
         (
             "x\n{\"type\":\"ObjectEvent\"}",
-            "0 0 Syntax\nnote: written 0 events 0 lots 0 left 0\n",
+            "0 0 Syntax\nnote: written 0 events 0 lots 0 derived 0 left 0\n",
         ),
         (
             "{}",
-            "0 0 NotDocument\nnote: written 0 events 0 lots 0 left 0\n",
+            "0 0 NotDocument\nnote: written 0 events 0 lots 0 derived 0 left 0\n",
         ),
     ];
     for (text, want) in &rows {
@@ -263,7 +290,7 @@ fn texts_with_lots(rt: HostRuntime) -> Result<(), Fail> {
         "{\"type\":\"ObjectEvent\",\"quantityList\":[{\"epcClass\":\"urn:epc:idpat:sgtin:9521321.000017.*\"}]}";
     let given = format!(in rt.alloc(); "{text}\n{bare}")?;
     let want =
-        "{\"epcList\":[\"https://id.gs1.org/01/09521321000179/10/Y-1\"],\"type\":\"ObjectEvent\"}\n{\"quantityList\":[{\"epcClass\":\"urn:epc:idpat:sgtin:9521321.000017.*\"}],\"type\":\"ObjectEvent\"}\nnote: written 2 events 2 lots 1 left 1\n";
+        "{\"epcList\":[\"https://id.gs1.org/01/09521321000179/10/Y-1\"],\"type\":\"ObjectEvent\"}\n{\"quantityList\":[{\"epcClass\":\"urn:epc:idpat:sgtin:9521321.000017.*\"}],\"type\":\"ObjectEvent\"}\nnote: written 2 events 2 lots 1 derived 0 left 1\n";
     assert!(rt; written(rt.alloc(), given.as_str(), true)?.as_str() == want);
     Ok(())
 }

@@ -1,0 +1,5 @@
+use Rattle.document_convert.proofs.UnitLaws.{lots_are_numbered}
+use Rattle.document_convert.proofs.laws.lots_are_numbered.Goals as goal
+
+pub returns : goal.returns
+returns c = lots_are_numbered
