@@ -1,12 +1,8 @@
 -- the law of statuses
-use Rattle.std.proofs.Common.{◌≡◌, ◌⊎◌, inl, inr, ◌↔◌, ℕ, Bool, true, false, not, ◌&&◌, ◌==◌, if◌then◌else◌, List, [], ◌∷◌, length, Contains, Option, Some, None, refl, sym, ap, subst, ◌∙◌, ⊎_elim, arith}
+use Rattle.std.proofs.Common.{◌≡◌, ◌⊎◌, inl, inr, ℕ, Bool, true, false, not, ◌&&◌, ◌==◌, if◌then◌else◌, List, [], ◌∷◌, length, Contains, Option, Some, None, refl, sym, ap, subst, ◌∙◌, ⊎_elim, arith}
 use mathlib.Core.Bool.{false≢true}
 use Rattle.std.specs.List.{list_any}
 use Rattle.std.proofs.lemmas.Bool.{ne_eqb}
-use Rattle.std.specs.Global.{Global}
-use Rattle.std.specs.declared.vec.Vec.{Vec}
-use Rattle.query_core.specs.declared.recalls.RecallDetail.{RecallDetail}
-use Rattle.query_core.specs.declared.recalls.RecallStatus.{RecallStatus}
 use Rattle.report_core.specs.declared.audits.Verdict.{Verdict}
 use Rattle.report_core.specs.declared.audits.Verdict.TheVariants.{Equal, Differs}
 use Rattle.trace_core.proofs.Members.{contains_here, contains_none, list_any_member, list_any_witness}
