@@ -1,3 +1,4 @@
 pub mod Instants
 pub mod Packings
+pub mod Texts
 pub mod Times

@@ -8,6 +8,7 @@ ghost use Rattle.epc_core.specs.Numbers.{is_digit};
 ghost use Rattle.epc_core.specs.Spellings.{Spells, sgtin_link, sscc_link};
 ghost use Rattle.event_writing.specs.declared.item_texts.TheConstants.{RESERVED};
 ghost use Rattle.event_writing.specs.Packings.{AreSpellings};
+ghost use Rattle.event_writing.specs.Texts.{item_text};
 
 use epc_core::{Epc, EpcForm};
 use percent_encoding::{AsciiSet, NON_ALPHANUMERIC, ascii_set, percent_encode};
@@ -17,14 +18,15 @@ use std::alloc::{AllocError, Global};
 /// What is escaped in a serial number: all but letters, digits and `-`, `.`, `_` (RFC 3986, section 2.3).
 const RESERVED: AsciiSet = ascii_set!(NON_ALPHANUMERIC.remove(b'-').remove(b'.').remove(b'_'));
 
-/// A text that spells the item: the Digital Link on `id.gs1.org` of a trade item or a logistic unit, and the text of
-/// any other item.
+/// A text that spells the item: the Digital Link on `id.gs1.org` of a trade item or a logistic unit (GS1 Digital Link
+/// standard, URI syntax), and the text of any other item.
 ///
 /// # Errors
 /// Out of memory.
 #[tactic(auto, using(crate::proofs::Links::item_spelled, crate::proofs::Links::sscc_spelled))]
-pub(crate) fn item_text(alloc: Global, item: &Epc) -> Result<String, AllocError>
-    ensures { IfOk result (λ t. Spells (string_bytes t) item.now) }
+pub fn item_text(alloc: Global, item: &Epc) -> Result<String, AllocError>
+    ensures spelled { IfOk result (λ t. Spells (string_bytes t) item.now) }
+    ensures text { IfOk result (λ t. string_bytes t ≡ item_text item.now) }
 {
     match item.form() {
         EpcForm::Item { gtin, serial } => item_link(alloc, gtin, serial.as_bytes()),

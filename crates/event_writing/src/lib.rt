@@ -9,4 +9,5 @@ pub mod laws;
 mod packings;
 mod times;
 
+pub use item_texts::item_text;
 pub use packings::packing_document;

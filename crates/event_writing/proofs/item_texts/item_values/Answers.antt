@@ -13,5 +13,5 @@ loop-item-preserved c =
     let seen = map-append view c.loop-item.values.items (c.text_value.result ∷ []) ∙ ap₂ (λ ds d. ds ++ d ∷ []) c.loop-item.invariant.1 c.text_value.ensures in (
       texts ++ text ∷ [],
       ap (map view) c.in_ok-push.ensures.items ∙ seen ∙ sym (map-append string texts (text ∷ [])),
-      all_zip_more (λ key t. Spells t key) c.args.items.now texts c.loop-item.item-index _ text c.loop-item-test.true c.item-item.is c.loop-item.invariant.2 c.in_ok-item_text.ensures,
+      all_zip_more (λ key t. Spells t key) c.args.items.now texts c.loop-item.item-index _ text c.loop-item-test.true c.item-item.is c.loop-item.invariant.2 c.in_ok-item_text.ensures.spelled,
     )

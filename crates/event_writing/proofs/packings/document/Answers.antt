@@ -15,7 +15,7 @@ returns c =
     (λ v is. record {
       named = c.as_str.result.now;
       texts = texts.0;
-      parent_named = subst (λ t. Spells t c.args.parent.now) (sym c.as_str.ensures.value) c.in_ok-parent.ensures;
+      parent_named = subst (λ t. Spells t c.args.parent.now) (sym c.as_str.ensures.value) c.in_ok-parent.ensures.spelled;
       children_named = texts.2;
       is = is ∙ ap (document_value c.args.time.now) event;
     })
