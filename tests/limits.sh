@@ -1,6 +1,7 @@
 #!/usr/bin/env bash
-# Runs scripts at the limits of items, documents and lists of sites, and compares each answer: what a definition says by a
-# number or a character is told here a second time, by each character and by the last case on either side of each number.
+# Runs scripts at the limits of items, documents, lists of sites and lots of units, and compares each answer: what a
+# definition says by a number or a character is told here a second time, by each character and by the last case on either
+# side of each number.
 # Run by hand, and by the gate on the program that it built. RECALL names another program. It takes a few seconds.
 # It ends with status 0 where all is as it should be.
 set -u
@@ -208,6 +209,33 @@ row 'quarantine A#2' 'pair A uri r' 'pair A uri x' 'pair A uri y' 'quarantined 3
 row 'pump 2' 'ended A#1' 'ended A#2' 'pumped 2 frames 8'
 row 'quarantine A#1' 'pair A uri r' 'pair A uri x' 'pair A uri y' 'pair B uri x' 'pair B uri y' 'quarantined 5 ended'
 ends 'pairs'
+
+# Lots that an event names for its units: 10 lot numbers at most, and 1,000 units, each counted once for each lot.
+
+# tied UNITS LOTS DERIVED UNTIED: an event with so many units whose `ilmd` names the lots from 1 on, converted
+tied() {
+    {
+        printf '{"type":"ObjectEvent","epcList":['
+        seq "$1" | sed 's/.*/"urn:epc:id:sgtin:0614141.112345.&"/' | paste -sd , | tr -d '\n'
+        printf '],"ilmd":{"lotNumber":['
+        seq "$2" | sed 's/.*/"&"/' | paste -sd , | tr -d '\n'
+        printf ']}}'
+    } >"$work/document"
+    "$recall" convert --lots "$work/document" >"$work/converted" 2>"$work/printed" || failed=1
+    echo "note: written 1 events $((1 + $3)) lots 0 derived $3 untied $4 left 0" >"$work/wanted"
+    if ! diff -u --label 'as it should be' --label "$1 units of $2 lots" "$work/wanted" "$work/printed"; then
+        failed=1
+    fi
+    rows=$((rows + 1))
+}
+tied 1000 1 1 0
+tied 1001 1 0 1
+tied 500 2 2 0
+tied 501 2 0 1
+tied 100 10 10 0
+tied 101 10 0 1
+tied 1 11 0 1
+tied 0 11 0 0
 
 [ $failed -eq 0 ] && echo "$rows rows"
 exit $failed

@@ -359,9 +359,10 @@ element has no lot stays as it is. A lot that the `ilmd` of an event names leads
 forth, by an event behind it.
 
 The error stream tells what is no document, `refused Doc Syntax` or `NotDocument` with the file and the line, and
-then `note: written <documents> events <events> lots <lots> derived <events> left <events>`: those that are derived
-lead from a lot to its units, and those that are left still have quantities, with which a capture refuses them. It is
-for a folder from its first capture on: an event that was captured without `--lots` is another one with it.
+then `note: written <documents> events <events> lots <lots> derived <events> untied <events> left <events>`: those
+that are derived lead from a lot to its units, those that are untied have too many lots or units, and no such event,
+and those that are left still have quantities, with which a capture refuses them. Ask for `--lots` from the
+first capture of a folder on: an event that was captured without it is another one with it.
 
 Examples:
   recall convert answer-of-a-query.json | recall capture chain dairy - --lines

@@ -4,7 +4,7 @@ use Rattle.std.specs.List.{enumerate_from, flat_map}
 use Rattle.std.proofs.lemmas.Grind.{flat_map-append}
 use Rattle.std.proofs.lemmas.List.{map-append}
 use Rattle.serde_json.specs.Data.{Data}
-use Rattle.document_convert.specs.Accounts.{event_count, none_yet, quantities, with_document}
+use Rattle.document_convert.specs.Accounts.{event_count, none_yet, quantities, untied_of, with_document}
 use Rattle.document_convert.specs.Converted.{AreConverted, AreLinesOf, IsLineOf, account_from, as_asked, document_at, documents_of, refused_at, refusals_of}
 use Rattle.document_convert.specs.Texts.{Piece, begins, by_lines, line_pieces, lines_of, no_value, piece_of, pieces_at, pieces_from, pieces_of, unmarked, value_of, whole_or_lines}
 use Rattle.document_convert.specs.declared.accounts.Account.{Account}
@@ -18,14 +18,14 @@ line_more (e ∷ ds) d lines line (first, rest, its, are, all) is =
     (first, rest ++ line, its, line_more ds d rest line are is, ap (λ ls. ls ++ line) all ∙ append_assoc first rest line)
 
 counted_more : (lots : Bool) (a : Account) (ds : List Data) (d : Data)
-    → account_from lots a (ds ++ d ∷ []) ≡ with_document (account_from lots a ds) (quantities d) (event_count d) (as_asked lots d)
+    → account_from lots a (ds ++ d ∷ []) ≡ with_document (account_from lots a ds) (quantities d) (event_count d) (untied_of lots d) (as_asked lots d)
 counted_more lots a [] d = refl
-counted_more lots a (e ∷ ds) d = counted_more lots (with_document a (quantities e) (event_count e) (as_asked lots e)) ds d
+counted_more lots a (e ∷ ds) d = counted_more lots (with_document a (quantities e) (event_count e) (untied_of lots e) (as_asked lots e)) ds d
 
 -- a document more
 pub document_more : (lots : Bool) (pieces : List Piece) (d : Data) (old new : Converted) (line : List ℕ)
     → IsLineOf (as_asked lots d) line → string_bytes new.lines ≡ string_bytes old.lines ++ line → new.refused.items ≡ old.refused.items
-    → new.account ≡ with_document old.account (quantities d) (event_count d) (as_asked lots d)
+    → new.account ≡ with_document old.account (quantities d) (event_count d) (untied_of lots d) (as_asked lots d)
     → AreConverted lots pieces old → AreConverted lots (pieces ++ Ok d ∷ []) new
 document_more lots pieces d old new line is lines same account are =
     let found : flat_map document_at (pieces ++ Ok d ∷ []) ≡ flat_map document_at pieces ++ d ∷ [] = flat_map-append document_at pieces (Ok d ∷ []) in
@@ -35,7 +35,7 @@ document_more lots pieces d old new line is lines same account are =
       written = subst (λ ls. AreLinesOf (documents_of lots (pieces ++ Ok d ∷ [])) ls) (sym lines)
           (subst (λ ds. AreLinesOf ds (string_bytes old.lines ++ line)) (sym written) (line_more (documents_of lots pieces) (as_asked lots d) (string_bytes old.lines) line are.written is));
       told = same ∙ are.told ∙ sym (flat_map-append refused_at pieces (Ok d ∷ []) ∙ append-nil (refusals_of pieces));
-      counted = account ∙ ap (λ a. with_document a (quantities d) (event_count d) (as_asked lots d)) are.counted ∙ sym (ap (account_from lots none_yet) found ∙ counted_more lots none_yet (flat_map document_at pieces) d);
+      counted = account ∙ ap (λ a. with_document a (quantities d) (event_count d) (untied_of lots d) (as_asked lots d)) are.counted ∙ sym (ap (account_from lots none_yet) found ∙ counted_more lots none_yet (flat_map document_at pieces) d);
     }
 
 -- what is none more

@@ -21,7 +21,7 @@ use Rattle.document_convert.specs.LotLaws.{Names}
 use Rattle.document_convert.specs.Lotted.{converted_event, document_with_lots, events_with_lots, has_lots, lotted}
 use Rattle.document_convert.specs.Quantities.{and_texts, list_of}
 use Rattle.document_convert.specs.Respelled.{respelled_text}
-use Rattle.document_convert.specs.UnitLaws.{AreWithDerived, HasUnits, IsDerived, IsUnitOf, LeadsFrom, LotsAreMade, LotsAreNumbered, NamesLotOfUnits, NothingIsInvented, UnitsAreLed, WithoutLotsAsBefore}
+use Rattle.document_convert.specs.UnitLaws.{AreWithDerived, HasFewLots, HasUnits, IsDerived, IsUnitOf, LeadsFrom, LotsAreMade, LotsAreNumbered, NamesLotOfUnits, NothingIsInvented, UnitsAreLed, WithoutLotsAsBefore}
 use Rattle.document_convert.specs.UnitLots.{lot_with, texts_with, unit_lots, units_of}
 use Rattle.document_convert.proofs.Around.{around_list, around_type}
 use Rattle.document_convert.proofs.Bare.{event_type, list_of_itself}
@@ -34,7 +34,7 @@ use Rattle.document_convert.proofs.Members.{other_member}
 use Rattle.document_convert.proofs.MovedLaws.{in_and_texts, set_there}
 use Rattle.document_convert.proofs.NoLots.{alone_list, both_none, its_list, without_lots_stays}
 use Rattle.document_convert.proofs.Settled.{is_document}
-use Rattle.document_convert.proofs.UnitLemmas.{all_its, among_its, lot_is, lot_there}
+use Rattle.document_convert.proofs.UnitLemmas.{all_its, among_its, lot_is, lot_there, none_of_many}
 use Rattle.document_convert.proofs.Without.{differ, skips}
 
 -- ---- the members of the event of a lot
@@ -250,10 +250,10 @@ are_found d events is = by (is_text is_document (type_text d)) refl
 -- ---- the laws
 
 pub units_are_led : UnitsAreLed
-units_are_led d e events lot text gtin is has names unit =
+units_are_led d e events lot text gtin is has few names unit =
     let all = flat_map events_with_lots (in_order events) in
     let l = lot_with (units_of e) lot gtin in
-    let (k, its) = has_event e 1 (unit_lots e) l (lot_there e lot text gtin names unit) in
+    let (k, its) = has_event e 1 (unit_lots e) l (lot_there e lot text gtin few names unit) in
     let led = lot_event e k l in
     let found : Contains all led = has_flat_map events_with_lots (in_order events) e led has (there (converted_event e) led (lot_events e) its) in (
       items_of all,
@@ -297,8 +297,8 @@ made_with d text lot type among (list, its, has) =
       in_and_texts list lots lot among,
     )
 
-lot_among : (d : Data) (numbered text gtin : List ℕ) → NamesLotOfUnits numbered d → IsUnitOf text gtin d → Contains (spellings (unit_lots d)) (lot_text gtin numbered)
-lot_among d numbered text gtin names unit = has_map spelling (unit_lots d) (lot_with (units_of d) numbered gtin) (lot_there d numbered text gtin names unit)
+lot_among : (d : Data) (numbered text gtin : List ℕ) → HasFewLots d → NamesLotOfUnits numbered d → IsUnitOf text gtin d → Contains (spellings (unit_lots d)) (lot_text gtin numbered)
+lot_among d numbered text gtin few names unit = has_map spelling (unit_lots d) (lot_with (units_of d) numbered gtin) (lot_there d numbered text gtin few names unit)
 
 -- the units of a transformation are those that it makes
 unit_made : (d : Data) (text items : List ℕ) → type_text d ≡ Some (codes "TransformationEvent") → HasUnits items d → Names items text d → Names out_items text d
@@ -307,10 +307,10 @@ unit_made d text items type (inl (seen, is)) named =
     absurd (omega (arith, n))
 unit_made d text items type (inr (made, is)) named = subst (λ name. Names name text d) is named
 
-lot_is_made : (d : Data) (numbered text gtin : List ℕ) → type_text d ≡ Some (codes "TransformationEvent") → NamesLotOfUnits numbered d → IsUnitOf text gtin d
+lot_is_made : (d : Data) (numbered text gtin : List ℕ) → type_text d ≡ Some (codes "TransformationEvent") → HasFewLots d → NamesLotOfUnits numbered d → IsUnitOf text gtin d
     → Names out_items (lot_text gtin numbered) (converted_event d)
-lot_is_made d numbered text gtin type names unit =
-    made_with d (respelled_text text) (lot_text gtin numbered) type (lot_among d numbered text gtin names unit)
+lot_is_made d numbered text gtin type few names unit =
+    made_with d (respelled_text text) (lot_text gtin numbered) type (lot_among d numbered text gtin few names unit)
     ((outputs d type).0 text (unit_made d text unit.items type unit.role unit.named))
 
 pub lots_are_made : LotsAreMade
@@ -397,4 +397,4 @@ no_unit : (d : Data) → ((text gtin : List ℕ) → IsUnitOf text gtin d → �
 no_unit d none = without d (λ l has. let lot = lot_is d l has in none lot.text lot.gtin lot.unit)
 
 pub without_lots_as_before : WithoutLotsAsBefore
-without_lots_as_before = record { no_lot = no_lot; no_unit = no_unit }
+without_lots_as_before = record { no_lot = no_lot; no_unit = no_unit; too_many = λ d many. none_behind d (none_of_many d many) }

@@ -1,8 +1,9 @@
 -- The lots that an event names, its units, and the lots of these.
 use Rattle.std.proofs.Common.{◌≡◌, ◌⊎◌, ℕ, List, [], ◌++◌, Contains, Bool, true, false, Option, Some, None, Result, Ok, Err, bytes_eq, codes, map, take, inl, inr, refl, sym, ap, ◌∙◌, subst, if◌then◌else◌}
-use Rattle.std.specs.Prelude.{filter, option_and_then, option_map, unwrap_or}
-use Rattle.std.specs.List.{filter_map}
+use Rattle.std.specs.Prelude.{◌*◌, filter, length, option_and_then, option_map, unwrap_or}
+use Rattle.std.specs.List.{filter_map, flat_map}
 use Rattle.std.proofs.lemmas.List.Elements.{Contains-append_cases, Contains-append_left, Contains-append_right}
+use Rattle.std.proofs.lemmas.Bool.{and_parts, le-leb, leb-true}
 use Rattle.std.proofs.lemmas.Option.{same_Some}
 use Rattle.std.proofs.lemmas.Slice.Eq.{bytes_eq-Decides}
 use Rattle.serde_json.specs.Data.{Data, null, boolean, number, string, array, object, Items}
@@ -22,8 +23,8 @@ use Rattle.event_json.specs.Members.{member_named}
 use Rattle.event_json.specs.Untraced.{in_order}
 use Rattle.document_convert.specs.Quantities.{list_of}
 use Rattle.document_convert.specs.LotLaws.{Names}
-use Rattle.document_convert.specs.UnitLots.{gtin_of, gtin_of_key, gtin_read, gtins_of, lot_with, lots_named, lots_numbered, named_by, named_in, texts_in, texts_of, texts_with, unit_in, unit_lots, units_at, units_by, units_of}
-use Rattle.document_convert.specs.UnitLaws.{HasUnits, IsLotName, IsUnitOf, NamesLotOfUnits, Tells}
+use Rattle.document_convert.specs.UnitLots.{gtin_of, gtin_of_key, gtin_read, gtins_of, has_few_lots, lot_with, lots_named, lots_numbered, named_by, named_in, numbers_named, texts_in, texts_of, texts_with, unit_in, unit_lots, units_at, units_by, units_of}
+use Rattle.document_convert.specs.UnitLaws.{HasFewLots, HasUnits, IsLotName, IsUnitOf, NamesLotOfUnits, Tells}
 use Rattle.document_convert.proofs.Beside.{array_there}
 use Rattle.document_convert.proofs.Has.{from_distinct, from_filter, from_filter_map, from_flat_map, from_map, has_distinct, has_filter, has_filter_map, has_flat_map, has_map, here, none_has, cases}
 use Rattle.document_convert.proofs.LotLemmas.{gtin_of_item}
@@ -128,14 +129,14 @@ from_named ilmd text has = by (Contains-append_cases (short ++ plain) full text 
     by (inr h) = (codes "urn:epcglobal:cbv:mda#lotNumber", inr (inr refl), h)
 
 pub is_named : (lot : List ℕ) (d : Data) → NamesLotOfUnits lot d → Contains (lots_named d) lot
-unfolding lots_named
+unfolding numbers_named
 is_named lot d names =
     let told = has_named names.ilmd names.name lot names.is_name (told_texts lot (member_named names.name names.ilmd) names.told) in
     let there : Contains (named_by (member_named (codes "ilmd") d)) lot = subst (λ o. Contains (named_by o) lot) (sym names.there) told in
     has_distinct [] (filter is_serial (named_by (member_named (codes "ilmd") d))) lot (inr (has_filter is_serial _ lot there (serial_to lot names.allowed)))
 
 pub names_it : (lot : List ℕ) (d : Data) → Contains (lots_named d) lot → NamesLotOfUnits lot d
-unfolding lots_named
+unfolding numbers_named
 names_it lot d has = by (from_distinct [] (filter is_serial (named_by (member_named (codes "ilmd") d))) lot has)
   where
     of_ilmd : (o : Option Data) → member_named (codes "ilmd") d ≡ o → is_serial lot ≡ true → Contains (named_by o) lot → NamesLotOfUnits lot d
@@ -241,12 +242,33 @@ all_its d text gtin has =
     let (found, same) = from_filter (λ (u : List ℕ × List ℕ). bytes_eq u.0 gtin) (units_of d) unit its in
     subst (λ g. IsUnitOf text g d) ((bytes_eq-Decides unit.0 gtin).0 same) (subst (λ t. IsUnitOf t unit.0 d) is (unit_is d unit found))
 
-pub lot_there : (d : Data) (lot text gtin : List ℕ) → NamesLotOfUnits lot d → IsUnitOf text gtin d → Contains (unit_lots d) (lot_with (units_of d) lot gtin)
-lot_there d lot text gtin names unit =
+-- all lots of its units, where they are few
+abbrev all_lots : Data → List (List ℕ × List (List ℕ))
+all_lots d = flat_map (lots_numbered (units_of d)) (lots_named d)
+
+few : (d : Data) → HasFewLots d → has_few_lots d ≡ true
+few d is = rw (le-leb (length (numbers_named d)) 10 is.numbers, le-leb (length (lots_named d) * length (units_of d)) 1000 is.units) refl
+
+is_few : (d : Data) → has_few_lots d ≡ true → HasFewLots d
+is_few d is =
+    let (numbers, units) = and_parts _ _ is in
+    record { numbers = leb-true (length (numbers_named d)) 10 numbers; units = leb-true (length (lots_named d) * length (units_of d)) 1000 units }
+
+pub none_of_many : (d : Data) → (HasFewLots d → ⊥) → unit_lots d ≡ []
+none_of_many d many = by (has_few_lots d) refl
+  where
+    by : (b : Bool) → has_few_lots d ≡ b → (if b then all_lots d else []) ≡ []
+    by true e = absurd (many (is_few d e))
+    by false e = refl
+
+pub lot_there : (d : Data) (lot text gtin : List ℕ) → HasFewLots d → NamesLotOfUnits lot d → IsUnitOf text gtin d → Contains (unit_lots d) (lot_with (units_of d) lot gtin)
+lot_there d lot text gtin is_few names unit =
     let has : Contains (gtins_of (units_of d)) gtin =
     has_distinct [] (map gtin_in (units_of d)) gtin (inr (has_map gtin_in (units_of d) (gtin, text) (is_unit text gtin d unit))) in
+    let all : Contains (all_lots d) (lot_with (units_of d) lot gtin) =
     has_flat_map (lots_numbered (units_of d)) (lots_named d) lot (lot_with (units_of d) lot gtin) (is_named lot d names)
-    (has_map (lot_with (units_of d) lot) (gtins_of (units_of d)) gtin has)
+    (has_map (lot_with (units_of d) lot) (gtins_of (units_of d)) gtin has) in
+    subst (λ b. Contains (if b then all_lots d else []) (lot_with (units_of d) lot gtin)) (sym (few d is_few)) all
 
 -- a lot of its units
 pub record IsLotOfUnits (d : Data) (l : List ℕ × List (List ℕ)) : Type 0 where
@@ -258,13 +280,20 @@ pub record IsLotOfUnits (d : Data) (l : List ℕ × List (List ℕ)) : Type 0 wh
   pub is : l ≡ lot_with (units_of d) lot gtin
 
 pub lot_is : (d : Data) (l : List ℕ × List (List ℕ)) → Contains (unit_lots d) l → IsLotOfUnits d l
-lot_is d l has =
-    let (lot, named, numbered) = from_flat_map (lots_numbered (units_of d)) (lots_named d) l has in
-    let (gtin, there, is) = from_map (lot_with (units_of d) lot) (gtins_of (units_of d)) l numbered in
-    by lot gtin named is (from_distinct [] (map gtin_in (units_of d)) gtin there)
+lot_is d l has = of_few (has_few_lots d) has
   where
     by : (lot gtin : List ℕ) → Contains (lots_named d) lot → lot_with (units_of d) lot gtin ≡ l → Contains [] gtin ⊎ Contains (map gtin_in (units_of d)) gtin → IsLotOfUnits d l
     by lot gtin named is (inl h) = absurd (none_has gtin h)
     by lot gtin named is (inr h) =
         let (unit, found, same) = from_map gtin_in (units_of d) gtin h in
         record { lot = lot; gtin = gtin; text = unit.1; names = names_it lot d named; unit = subst (λ g. IsUnitOf unit.1 g d) same (unit_is d unit found); is = sym is }
+
+    of_all : Contains (all_lots d) l → IsLotOfUnits d l
+    of_all has =
+        let (lot, named, numbered) = from_flat_map (lots_numbered (units_of d)) (lots_named d) l has in
+        let (gtin, there, is) = from_map (lot_with (units_of d) lot) (gtins_of (units_of d)) l numbered in
+        by lot gtin named is (from_distinct [] (map gtin_in (units_of d)) gtin there)
+
+    of_few : (b : Bool) → Contains (if b then all_lots d else []) l → IsLotOfUnits d l
+    of_few true h = of_all h
+    of_few false h = absurd (none_has l h)

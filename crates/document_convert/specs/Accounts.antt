@@ -1,11 +1,12 @@
 -- What a conversion found and changed, in numbers.
-use Rattle.std.specs.Prelude.{ℕ, ◌+◌, ◌-◌, ◌^◌, List, [], ◌∷◌, Option, bytes_eq, codes, count_by, if◌then◌else◌, length, min, option_and_then, option_map, unwrap_or}
+use Rattle.std.specs.Prelude.{ℕ, ◌+◌, ◌-◌, ◌^◌, Bool, true, false, List, [], ◌∷◌, Option, bytes_eq, codes, count_by, if◌then◌else◌, length, min, option_and_then, option_map, unwrap_or}
 use Rattle.serde_json.specs.Data.{Data}
 use Rattle.serde_json.specs.Find.{as_array}
 use Rattle.event_json.specs.Checks.{type_text}
 use Rattle.event_json.specs.Members.{count_of, member_named}
 use Rattle.event_json.specs.Untraced.{listed_events}
 use Rattle.document_convert.specs.Quantities.{has_quantities}
+use Rattle.document_convert.specs.UnitLots.{is_untied}
 use Rattle.document_convert.specs.declared.accounts.Account.{Account}
 
 -- a count rises by so many, and stays at the greatest number
@@ -41,19 +42,25 @@ quantities d = elements_from 0 (listed_events d)
 -- ---- all documents
 
 abbrev pub none_yet : Account
-none_yet = record { written = 0; events = 0; lots = 0; derived = 0; left = 0 }
+none_yet = record { written = 0; events = 0; lots = 0; derived = 0; untied = 0; left = 0 }
 
 -- how many events a document has
 abbrev pub event_count : Data → ℕ
 event_count d = length (listed_events d)
 
--- with a document that had so many quantities and so many events, as it was written: each of the quantities that isn't left is a lot among
--- the items, and each event more was derived
-abbrev pub with_document : Account → ℕ → ℕ → Data → Account
-with_document a had came d = record {
+-- how many events of a document have more lots of units than are tied to these, where that is asked for
+abbrev pub untied_of : Bool → Data → ℕ
+untied_of true d = count_by is_untied (listed_events d)
+untied_of false d = 0
+
+-- with a document that had so many quantities, events, and events with too many lots, as it was written: each of the quantities that isn't
+-- left is a lot among the items, and each event more was derived
+abbrev pub with_document : Account → ℕ → ℕ → ℕ → Data → Account
+with_document a had came untied d = record {
   written = up a.written 1;
   events = up a.events (event_count d);
   lots = up a.lots (had - quantities d);
   derived = up a.derived (event_count d - came);
+  untied = up a.untied untied;
   left = up a.left (count_by has_quantities (listed_events d));
 }

@@ -5,7 +5,7 @@ use Rattle.json.specs.Lex.{tokens}
 use Rattle.json.specs.Print.{print}
 use Rattle.serde_json.specs.Data.{Data, depth}
 use Rattle.serde_json.specs.Read.{max_depth, read}
-use Rattle.document_convert.specs.Accounts.{event_count, none_yet, quantities, with_document}
+use Rattle.document_convert.specs.Accounts.{event_count, none_yet, quantities, untied_of, with_document}
 use Rattle.document_convert.specs.Lotted.{document_with_lots}
 use Rattle.document_convert.specs.Texts.{Piece, pieces_of}
 use Rattle.document_convert.specs.declared.accounts.Account.{Account}
@@ -50,7 +50,7 @@ refusals_of pieces = flat_map refused_at pieces
 
 abbrev pub account_from : Bool → Account → List Data → Account
 account_from lots a [] = a
-account_from lots a (d ∷ ds) = account_from lots (with_document a (quantities d) (event_count d) (as_asked lots d)) ds
+account_from lots a (d ∷ ds) = account_from lots (with_document a (quantities d) (event_count d) (untied_of lots d) (as_asked lots d)) ds
 
 -- each document is written in order, and each refusal told
 pub record AreConverted (lots : Bool) (pieces : List Piece) (converted : Converted) : Type 0 where

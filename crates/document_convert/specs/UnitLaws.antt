@@ -1,5 +1,5 @@
 -- What becomes of the lots that an event's master data names, in the words of the one who recalls one.
-use Rattle.std.specs.Prelude.{◌≡◌, ◌⊎◌, ◌≤◌, ◌+◌, ℕ, codes, Contains, List, [], ◌∷◌, ◌++◌, length, Option, Some, None, Ok}
+use Rattle.std.specs.Prelude.{◌≡◌, ◌⊎◌, ◌≤◌, ◌+◌, ◌*◌, ℕ, codes, Contains, List, [], ◌∷◌, ◌++◌, length, Option, Some, None, Ok}
 use Rattle.std.specs.Fmt.{decimal}
 use Rattle.serde_json.specs.Data.{Data, Items, array, string}
 use Rattle.serde_json.specs.Find.{get}
@@ -16,6 +16,7 @@ use Rattle.document_convert.specs.LotEvents.{array_of, lot_events}
 use Rattle.document_convert.specs.LotLaws.{Names}
 use Rattle.document_convert.specs.Lotted.{converted_event, document_with_lots, events_with_lots, lotted}
 use Rattle.document_convert.specs.Quantities.{and_texts, list_of}
+use Rattle.document_convert.specs.UnitLots.{lots_named, numbers_named, units_of}
 
 -- ---- what an event says
 
@@ -51,6 +52,11 @@ pub record IsUnitOf (text gtin : List ℕ) (d : Data) : Type 0 where
   pub checked : IsChecked 14 gtin
   pub spells : Spells text (sgtin_key gtin serial)
 
+-- `ilmd` names at most ten lot numbers, and the units of the event are at most 1,000, each counted once for each lot
+pub record HasFewLots (d : Data) : Type 0 where
+  pub numbers : length (numbers_named d) ≤ 10
+  pub units : length (lots_named d) * length (units_of d) ≤ 1000
+
 -- ---- the events that lead from a lot to its units
 
 -- this one leads from one lot to these units, has the time of another event, and beside an identifier nothing else
@@ -81,11 +87,11 @@ AreWithDerived (d ∷ ds) found =
 
 -- ---- the laws
 
--- Each unit of a lot that is named has an event in the converted document that leads from the lot's spelling to it.
+-- Each unit of a lot that is named, where they aren't too many, has an event in the converted document that leads from the lot's spelling to it.
 abbrev pub UnitsAreLed : Type 0
 UnitsAreLed =
     (d e : Data) (events : Items) (number text gtin : List ℕ) → event_list d ≡ Ok events → Contains (in_order events) e
-    → NamesLotOfUnits number e → IsUnitOf text gtin e
+    → HasFewLots e → NamesLotOfUnits number e → IsUnitOf text gtin e
     → (found : Items) × (event_list (document_with_lots d) ≡ Ok found)
     × (led : Data) × Contains (in_order found) led × (units : List (List ℕ)) × LeadsFrom (lot_text gtin number) units e led × Contains units text
 
@@ -106,13 +112,14 @@ pub record LotsAreMade : Type 0 where
   pub others : (d : Data) (name : List ℕ) → (name ≡ codes "outputEPCList" → ⊥) → get name (converted_event d) ≡ get name (lotted d)
   pub behind : (d : Data) (text : List ℕ) (list : Items) → Names (codes "outputEPCList") text (lotted d) → list_of (member_named (codes "outputEPCList") (lotted d)) ≡ Some list
       → (lots : List (List ℕ)) × AreLotsOf d lots × (list_of (member_named (codes "outputEPCList") (converted_event d)) ≡ Some (and_texts list lots))
-  pub made : (d : Data) (number text gtin : List ℕ) → type_text d ≡ Some (codes "TransformationEvent") → NamesLotOfUnits number d → IsUnitOf text gtin d
+  pub made : (d : Data) (number text gtin : List ℕ) → type_text d ≡ Some (codes "TransformationEvent") → HasFewLots d → NamesLotOfUnits number d → IsUnitOf text gtin d
       → Names (codes "outputEPCList") (lot_text gtin number) (converted_event d)
 
--- An event whose `ilmd` names no lot, or that has no units of a GTIN, is written as before, and nothing behind it.
+-- An event whose `ilmd` names no lot, that has no units of a GTIN, or that has too many of both, is written as before, and nothing behind it.
 pub record WithoutLotsAsBefore : Type 0 where
   pub no_lot : (d : Data) → ((number : List ℕ) → NamesLotOfUnits number d → ⊥) → events_with_lots d ≡ lotted d ∷ []
   pub no_unit : (d : Data) → ((text gtin : List ℕ) → IsUnitOf text gtin d → ⊥) → events_with_lots d ≡ lotted d ∷ []
+  pub too_many : (d : Data) → (HasFewLots d → ⊥) → events_with_lots d ≡ lotted d ∷ []
 
 -- The events of an event's lots have its identifier and their number, where it has one: the same event gives the same ones, and no two are one.
 pub record LotsAreNumbered : Type 0 where

@@ -1,6 +1,6 @@
 -- The lots that an event's instance/lot master data names, and the units that they are the lots of (GS1 EPCIS 2.0, section 7.3: ILMD; Core
 -- Business Vocabulary 2.0: lotNumber).
-use Rattle.std.specs.Prelude.{ℕ, if◌then◌else◌, List, [], ◌∷◌, ◌++◌, bytes_eq, codes, filter, map, take, Option, Some, None, option_and_then, option_map, unwrap_or, Result, Ok, Err}
+use Rattle.std.specs.Prelude.{ℕ, ◌*◌, ◌==◌, Bool, ◌&&◌, not, nat_le, length, if◌then◌else◌, List, [], ◌∷◌, ◌++◌, bytes_eq, codes, filter, map, take, Option, Some, None, option_and_then, option_map, unwrap_or, Result, Ok, Err}
 use Rattle.std.specs.List.{filter_map, flat_map, list_any}
 use Rattle.serde_json.specs.Data.{Data, Items}
 use Rattle.serde_json.specs.Find.{as_array, as_str}
@@ -47,9 +47,13 @@ named_in ilmd =
 abbrev pub named_by : Option Data → List (List ℕ)
 named_by ilmd = unwrap_or (option_map named_in ilmd) []
 
--- the lots that an event names so, each once, in order: a lot has 1 to 20 of the 82 characters
-unfoldable pub lots_named : Data → List (List ℕ)
-lots_named d = distinct_from [] (filter is_serial (named_by (member_named (codes "ilmd") d)))
+-- those of them that are lot numbers: 1 to 20 of the 82 characters
+unfoldable pub numbers_named : Data → List (List ℕ)
+numbers_named d = filter is_serial (named_by (member_named (codes "ilmd") d))
+
+-- the lots that an event names so, each once, in order
+abbrev pub lots_named : Data → List (List ℕ)
+lots_named d = distinct_from [] (numbers_named d)
 
 -- ---- the units of an event
 
@@ -100,6 +104,17 @@ lot_with units number gtin = (lot_text gtin number, texts_with units gtin)
 abbrev pub lots_numbered : List (List ℕ × List ℕ) → List ℕ → List (List ℕ × List (List ℕ))
 lots_numbered units number = map (lot_with units number) (gtins_of units)
 
--- the lots of an event's units: each that `ilmd` names, for each GTIN
+-- ---- those of an event
+
+-- the lot numbers that an event's `ilmd` names are at most ten, and its units, each counted once for each lot, no more than a list of a
+-- document may have
+abbrev pub has_few_lots : Data → Bool
+has_few_lots d = nat_le (length (numbers_named d)) 10 && nat_le (length (lots_named d) * length (units_of d)) 1000
+
+-- the lots of an event's units: each that `ilmd` names, for each GTIN; none where they are more
 abbrev pub unit_lots : Data → List (List ℕ × List (List ℕ))
-unit_lots d = flat_map (lots_numbered (units_of d)) (lots_named d)
+unit_lots d = if has_few_lots d then flat_map (lots_numbered (units_of d)) (lots_named d) else []
+
+-- it has units, and more lots of these
+abbrev pub is_untied : Data → Bool
+is_untied d = not (has_few_lots d) && not (length (units_of d) == 0)

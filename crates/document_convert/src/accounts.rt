@@ -1,15 +1,17 @@
 //! What a conversion found and changed, in numbers.
 
-ghost use Rattle.std.specs.Prelude.{◌≡◌, count_by, length, option_map};
+ghost use Rattle.std.specs.Prelude.{◌≡◌, count_by, IfOk, length, option_map};
 ghost use Rattle.serde_json.specs.View.{items_view, view};
 ghost use Rattle.event_json.specs.Members.{member_named};
 ghost use Rattle.event_json.specs.Untraced.{in_order, listed_events};
-ghost use Rattle.document_convert.specs.Accounts.{elements_by, elements_in, elements_of, elements_from, event_count, none_yet, quantities, with_document};
+ghost use Rattle.document_convert.specs.Accounts.{elements_by, elements_in, elements_of, elements_from, event_count, none_yet, quantities, untied_of, with_document};
 ghost use Rattle.document_convert.specs.Quantities.{has_quantities};
+ghost use Rattle.document_convert.specs.UnitLots.{is_untied};
 
 use crate::event_lists::events_of;
 use crate::quantities::has_quantities;
 use crate::types::{member_named, type_text};
+use crate::unit_lots::is_untied;
 use serde_json::{Value, json};
 use std::alloc::{AllocError, Global};
 
@@ -24,6 +26,9 @@ pub struct Account {
     pub lots: u64,
     /// The events that were added: each leads from a lot to its units.
     pub derived: u64,
+    /// The events with more lots of units than were tied to these: over 10 lot numbers, or over 1,000 units, each counted
+    /// once for each lot.
+    pub untied: u64,
     /// The events that still have quantities, with which a capture refuses them.
     pub left: u64,
 }
@@ -38,6 +43,7 @@ impl Account {
             events: 0,
             lots: 0,
             derived: 0,
+            untied: 0,
             left: 0,
         }
     }
@@ -49,11 +55,12 @@ impl Account {
             events: self.events.saturating_add(more.events),
             lots: self.lots.saturating_add(more.lots),
             derived: self.derived.saturating_add(more.derived),
+            untied: self.untied.saturating_add(more.untied),
             left: self.left.saturating_add(more.left),
         }
     }
 
-    /// The line that tells it, as `note: written 1 events 3 lots 2 derived 1 left 0`, with its LF.
+    /// The line that tells it, as `note: written 1 events 3 lots 2 derived 1 untied 0 left 0`, with its LF.
     ///
     /// # Errors
     /// Where memory runs out.
@@ -63,10 +70,12 @@ impl Account {
             events,
             lots,
             derived,
+            untied,
             left,
         } = self;
         let mut text = format!(in alloc; "note: written {written} events {events}")?;
-        text.push_str(format!(in alloc; " lots {lots} derived {derived} left {left}\n")?.as_str())?;
+        text.push_str(format!(in alloc; " lots {lots} derived {derived}")?.as_str())?;
+        text.push_str(format!(in alloc; " untied {untied} left {left}\n")?.as_str())?;
         Ok(text)
     }
 
@@ -76,15 +85,15 @@ impl Account {
     /// Where memory runs out.
     pub fn json(self, alloc: Global) -> Result<String, AllocError> {
         let account =
-            json!(in alloc; {"derived": self.derived, "events": self.events, "left": self.left, "lots": self.lots, "written": self.written})?;
+            json!(in alloc; {"derived": self.derived, "events": self.events, "left": self.left, "lots": self.lots, "untied": self.untied, "written": self.written})?;
         let mut line = json!(in alloc; {"account": account})?.to_string(alloc)?;
         line.push('\n')?;
         Ok(line)
     }
 
-    /// With a document more, that had so many quantities and so many events, as it was written.
-    pub(crate) fn with(self, had: u64, came: u64, document: &Value) -> Account
-        ensures { result ≡ with_document self had came (view document.now) }
+    /// With a document more, that had so many quantities, events, and events with too many lots, as it was written.
+    pub(crate) fn with(self, had: u64, came: u64, untied: u64, document: &Value) -> Account
+        ensures { result ≡ with_document self had came untied (view document.now) }
     {
         let now = event_count(document);
         Account {
@@ -94,6 +103,7 @@ impl Account {
                 .lots
                 .saturating_add(had.saturating_sub(quantities(document))),
             derived: self.derived.saturating_add(now.saturating_sub(came)),
+            untied: self.untied.saturating_add(untied),
             left: self.left.saturating_add(left(events_of(document))),
         }
     }
@@ -104,6 +114,31 @@ pub(crate) fn event_count(document: &Value) -> u64
     ensures { result ≡ event_count (view document.now) }
 {
     count(events_of(document))
+}
+
+/// How many events of a document have more lots of units than are tied to these, where that is asked for.
+pub(crate) fn untied_of(alloc: Global, document: &Value, lots: bool) -> Result<u64, AllocError>
+    ensures { IfOk result (λ count. count ≡ untied_of lots (view document.now)) }
+{
+    if lots {
+        untied(alloc, events_of(document))
+    } else {
+        Ok(0)
+    }
+}
+
+/// How many of these events have.
+fn untied(alloc: Global, events: &[Value]) -> Result<u64, AllocError>
+    ensures { IfOk result
+        (λ count. count ≡ count_by is_untied (in_order (items_view events.now))) }
+{
+    let mut count: u64 = 0;
+    for event in events.iter() {
+        if is_untied(alloc, event)? {
+            count += 1;
+        }
+    }
+    Ok(count)
 }
 
 /// How many events these are.

@@ -6,7 +6,7 @@ ghost use Rattle.serde_json.specs.View.{view};
 ghost use Rattle.document_convert.specs.Converted.{AreConverted, IsConverted, IsLineOf, as_asked};
 ghost use Rattle.document_convert.specs.Texts.{Piece, begins, by_lines, first_number, line_pieces, lines_of, no_document, no_value, piece_of, pieces_at};
 
-use crate::accounts::{Account, event_count, quantities};
+use crate::accounts::{Account, event_count, quantities, untied_of};
 use crate::documents::documents_in;
 use crate::lotted::document_with_lots;
 use crate::texts::{is_blank, lines_of, unmarked, value_of};
@@ -242,9 +242,10 @@ impl Converted {
     {
         let had = quantities(&document);
         let came = event_count(&document);
+        let untied = untied_of(alloc, &document, lots)?;
         let document = as_asked(alloc, document, lots)?;
         push_text(alloc, &mut self.lines, &document)?;
-        self.account = self.account.with(had, came, &document);
+        self.account = self.account.with(had, came, untied, &document);
         Ok(())
     }
 }

@@ -1,6 +1,6 @@
 //! The lots that an event's instance/lot master data names, with the units that they are the lots of.
 
-ghost use Rattle.std.specs.Prelude.{◌≡◌, [], ◌∷◌, ◌++◌, filter, IfOk, OnOk, bytes_eq, codes, map, option_and_then, option_map, string_bytes, unwrap_or};
+ghost use Rattle.std.specs.Prelude.{◌≡◌, ◌*◌, [], ◌∷◌, ◌++◌, filter, length, nat_le, IfOk, OnOk, bytes_eq, codes, map, option_and_then, option_map, string_bytes, unwrap_or};
 ghost use Rattle.serde_json.specs.Find.{as_array, as_str};
 ghost use Rattle.std.specs.List.{filter_map, flat_map, list_all, list_any};
 ghost use Rattle.serde_json.specs.View.{items_view, view};
@@ -8,13 +8,19 @@ ghost use Rattle.event_json.specs.Members.{member_named};
 ghost use Rattle.epc_core.specs.Reading.{reading};
 ghost use Rattle.epc_core.specs.Serials.{is_serial, is_serial_byte};
 ghost use Rattle.document_convert.specs.SeenLots.{seen_lots, seen_units};
-ghost use Rattle.document_convert.specs.UnitLots.{distinct_from, gtin_of, gtin_of_key, gtin_read, gtins_of, lot_with, lots_named, lots_numbered, named_by, named_in, text_or_texts, texts_in, texts_of, texts_with, unit_in, unit_lots, units_at, units_by, units_of, with_new};
+ghost use Rattle.document_convert.specs.UnitLots.{distinct_from, gtin_of, gtin_of_key, gtin_read, gtins_of, is_untied, lot_with, lots_numbered, named_by, named_in, numbers_named, text_or_texts, texts_in, texts_of, texts_with, unit_in, unit_lots, units_at, units_by, units_of, with_new};
 
 use crate::lots::{digits_text, lot_text};
 use crate::types::{member_named, type_text};
 use epc_core::{Epc, EpcFault, EpcForm};
 use serde_json::Value;
 use std::alloc::{AllocError, Global};
+
+/// The most lot numbers that an event's master data may name, so that few bytes don't bring forth many events.
+const MOST_NUMBERS: usize = 10;
+
+/// The most units, each counted once for each lot: as many as a list of a document may have.
+const MOST_UNITS: usize = 1000;
 
 /// A unit of an event.
 #[derive(Debug, Drop)]
@@ -145,27 +151,55 @@ fn named_by(alloc: Global, event: &Value) -> Result<Vec<&str>, AllocError>
     }
 }
 
-/// The lot numbers among these texts, each once, in order.
-fn lots_among<'v>(alloc: Global, texts: &[&'v str]) -> Result<Vec<&'v str>, AllocError>
-    ensures { IfOk result (λ lots. map (λ t. t.now) lots.items
-        ≡ distinct_from [] (filter is_serial (map (λ t. t.now) texts.now))) }
+/// The lot numbers among these texts, in order.
+fn numbers_among<'v>(alloc: Global, texts: &[&'v str]) -> Result<Vec<&'v str>, AllocError>
+    ensures { IfOk result (λ numbers. map (λ t. t.now) numbers.items
+        ≡ filter is_serial (map (λ t. t.now) texts.now)) }
+{
+    let mut numbers = Vec::new(alloc);
+    for text in texts {
+        if is_lot(text) {
+            numbers.push(*text)?;
+        }
+    }
+    Ok(numbers)
+}
+
+/// The lot numbers that an event's master data names, in order.
+#[tactic(auto, unfolding(crate::specs::UnitLots::numbers_named))]
+fn numbers_named(alloc: Global, event: &Value) -> Result<Vec<&str>, AllocError>
+    ensures { IfOk result
+        (λ numbers. map (λ t. t.now) numbers.items ≡ numbers_named (view event.now)) }
+{
+    let named = named_by(alloc, event)?;
+    numbers_among(alloc, named.as_slice())
+}
+
+/// These texts, each once, in order.
+fn each_once<'v>(alloc: Global, texts: &[&'v str]) -> Result<Vec<&'v str>, AllocError>
+    ensures { IfOk result
+        (λ lots. map (λ t. t.now) lots.items ≡ distinct_from [] (map (λ t. t.now) texts.now)) }
 {
     let mut lots = Vec::new(alloc);
     for text in texts {
-        if is_lot(text) {
-            push_new(&mut lots, text)?;
-        }
+        push_new(&mut lots, text)?;
     }
     Ok(lots)
 }
 
-/// The lots that an event's master data names, each once, in order.
-#[tactic(auto, unfolding(crate::specs::UnitLots::lots_named))]
-fn lots_named(alloc: Global, event: &Value) -> Result<Vec<&str>, AllocError>
-    ensures { IfOk result (λ lots. map (λ t. t.now) lots.items ≡ lots_named (view event.now)) }
+/// Whether these are at most so many lot numbers as may be named.
+fn are_few(numbers: &[&str]) -> bool
+    ensures { result ≡ nat_le (length (map (λ t. t.now) numbers.now)) 10 }
 {
-    let named = named_by(alloc, event)?;
-    lots_among(alloc, named.as_slice())
+    numbers.len() <= MOST_NUMBERS
+}
+
+/// Whether so many units, each counted once for each lot, are no more than a list of a document may have.
+fn have_few(lots: &[&str], units: &[Unit<'_>]) -> bool
+    ensures { result
+        ≡ nat_le (length (map (λ t. t.now) lots.now) * length (seen_units units.now)) 1000 }
+{
+    lots.len().saturating_mul(units.len()) <= MOST_UNITS
 }
 
 /// The GTIN of a unit.
@@ -320,16 +354,37 @@ fn lots_of_units<'v>(
     Ok(lots)
 }
 
-/// The lots of an event's units: each that its master data names, for each GTIN.
+/// The lots of an event's units: each that its master data names, for each GTIN; none where they are more than
+/// [`MOST_NUMBERS`], or the units more than [`MOST_UNITS`].
 pub(crate) fn unit_lots(alloc: Global, event: &Value) -> Result<Vec<UnitLot<'_>>, AllocError>
-    ensures { IfOk result
-        (λ lots. seen_lots lots.items
-        ≡ unit_lots (view event.now)) }
+    ensures { IfOk result (λ lots. seen_lots lots.items ≡ unit_lots (view event.now)) }
 {
-    let numbers = lots_named(alloc, event)?;
-    if numbers.is_empty() {
+    let numbers = numbers_named(alloc, event)?;
+    // Most events name none: their units aren't read.
+    if numbers.is_empty() || !are_few(numbers.as_slice()) {
         return Ok(Vec::new(alloc));
     }
+    let lots = each_once(alloc, numbers.as_slice())?;
     let units = units_of(alloc, event)?;
-    lots_of_units(alloc, units.as_slice(), numbers.as_slice())
+    if have_few(lots.as_slice(), units.as_slice()) {
+        lots_of_units(alloc, units.as_slice(), lots.as_slice())
+    } else {
+        Ok(Vec::new(alloc))
+    }
+}
+
+/// Whether an event has units, and more lots of these than are tied to them.
+pub(crate) fn is_untied(alloc: Global, event: &Value) -> Result<bool, AllocError>
+    ensures { IfOk result (λ untied. untied ≡ is_untied (view event.now)) }
+{
+    let numbers = numbers_named(alloc, event)?;
+    if numbers.is_empty() {
+        return Ok(false);
+    }
+    let units = units_of(alloc, event)?;
+    if !are_few(numbers.as_slice()) {
+        return Ok(!units.is_empty());
+    }
+    let lots = each_once(alloc, numbers.as_slice())?;
+    Ok(!have_few(lots.as_slice(), units.as_slice()))
 }

@@ -11,5 +11,6 @@ returns c =
       events = (c.saturating_add-2.ensures ∙ ap (up c.args.self.events) now) i;
       lots = (c.saturating_add-3.ensures ∙ ap (up c.args.self.lots) (c.saturating_sub.ensures ∙ ap (λ n. c.args.had - n) c.quantities.ensures)) i;
       derived = (c.saturating_add-4.ensures ∙ ap (up c.args.self.derived) (c.saturating_sub-2.ensures ∙ ap (λ n. n - c.args.came) now)) i;
-      left = (c.saturating_add-5.ensures ∙ ap (up c.args.self.left) (c.left.ensures ∙ ap (count_by has_quantities) c.events_of.ensures)) i;
+      untied = c.saturating_add-5.ensures i;
+      left = (c.saturating_add-6.ensures ∙ ap (up c.args.self.left) (c.left.ensures ∙ ap (count_by has_quantities) c.events_of.ensures)) i;
     }
