@@ -81,7 +81,8 @@ nothing_twice (inr (inr untold)) = nothing_set (codes "events") untold.0
 no_contradiction : Contradicts (codes "sim") [] → ⊥
 no_contradiction (inl two) = nothing_twice two
 no_contradiction (inr (inl (is, both))) = nothing_set (codes "lines") both.0
-no_contradiction (inr (inr (is, dry))) = nothing_set (codes "dry-run") dry.dry
+no_contradiction (inr (inr (inl (is, dry)))) = nothing_set (codes "dry-run") dry.dry
+no_contradiction (inr (inr (inr idle))) = let bad = idle.0 in cc
 
 -- and no inputs
 sim_has_no_words : (kind : WordKind) (rows : List Row) (words : List Text) → GivesWords (codes "sim") rows kind words → ⊥
@@ -187,7 +188,7 @@ start_named name rows (Some (asked.Lint files)) e is = absurd is
 start_named name rows (Some (asked.Packs files)) e is = absurd is
 start_named name rows (Some (asked.Convert files)) e is = absurd is
 start_named name rows (Some (asked.Help text)) e is = absurd is
-start_named name rows (Some (asked.Mistake text)) e is = inr (inr (e, is))
+start_named name rows (Some (asked.Mistake text)) e is = inr (inr (inl (e, is)))
 
 -- what `lint` asks for is asked for by that name
 pub lint_named : (name : Text) (rows : List Row) (result : Option Asked) → name ≡ codes "lint" → IfSome result (IsLintCommand rows) → IfSome result (AsksOf name rows)
@@ -260,6 +261,16 @@ unset_where rows name none = (
   λ t. absurd (false≢true t),
   λ given. let bad : ◌≡◌ {A = Option Text} None (Some (codes "true")) = sym none ∙ given in cc,
 )
+
+-- the argument is there, or it isn't
+pub there_where : (rows : List Row) (name text : Text) → first_of name rows ≡ Some text → IsTrue false ↔ (first_of name rows ≡ None)
+there_where rows name text has = (
+  λ t. absurd (false≢true t),
+  λ none. let bad : ◌≡◌ {A = Option Text} None (Some text) = sym none ∙ has in cc,
+)
+
+pub absent_where : (rows : List Row) (name : Text) → first_of name rows ≡ None → IsTrue true ↔ (first_of name rows ≡ None)
+absent_where rows name none = (λ t. none, λ n. refl)
 
 -- what isn't there
 pub not_set : {P : Type 0} (b : Bool) → b ≡ false → IsTrue b ↔ P → IsTrue false ↔ P

@@ -277,6 +277,10 @@ AsksTwoSpellings rows = IsSet rows (codes "key") × IsSet rows (codes "scan")
 abbrev pub AsksUntoldEvents : List Row → Type 0
 AsksUntoldEvents rows = IsSet rows (codes "events") × (IsSet rows (codes "csv") ⊎ IsSet rows (codes "csv-guarded") ⊎ IsSet rows (codes "dot"))
 
+-- it is said how an item is spelled, and none is given: of items without `--in`
+abbrev pub AsksIdleSpelling : Text → List Row → Type 0
+AsksIdleSpelling name rows = (name ≡ codes "items") × (first_of (codes "in") rows ≡ None) × (IsSet rows (codes "key") ⊎ IsSet rows (codes "scan"))
+
 -- options that exclude each other are there
 abbrev pub AsksTwo : List Row → Type 0
 AsksTwo rows = AsksTwoForms rows ⊎ AsksTwoSpellings rows ⊎ AsksUntoldEvents rows
@@ -331,6 +335,7 @@ IsCommand (Recall folder recall coded) name rows =
 IsCommand (Items folder site text) name rows =
     (name ≡ codes "items") × Gives rows (codes "dir") folder.now × Gives rows (codes "site") site.now × GivesOrNone rows (codes "text") text.now
     × (first_of (codes "in") rows ≡ None)
+    × GivesSpelling rows spellings.Epc
 IsCommand (Inside folder site item text) name rows =
     (name ≡ codes "items") × Gives rows (codes "dir") folder.now × Gives rows (codes "site") site.now × GivesOrNone rows (codes "text") text.now
     × Gives rows (codes "in") item.text.now × GivesSpelling rows item.spelling
@@ -421,9 +426,10 @@ abbrev pub HasTurns : FileCommand → Type 0
 HasTurns (Run dir terms) = terms.turns ≤ 1000000
 HasTurns command = ⊤
 
--- two options exclude each other, or a dry start of several recalls is asked for
+-- two options exclude each other, a dry start of several recalls is asked for, or an option is there without what it is of
 abbrev pub Contradicts : Text → List Row → Type 0
-Contradicts name rows = AsksTwo rows ⊎ (((name ≡ codes "capture") × AsksLinesAndEvents rows) ⊎ ((name ≡ codes "start") × AsksDryBatch rows))
+Contradicts name rows =
+    AsksTwo rows ⊎ (((name ≡ codes "capture") × AsksLinesAndEvents rows) ⊎ (((name ≡ codes "start") × AsksDryBatch rows) ⊎ AsksIdleSpelling name rows))
 
 -- the command of this name, with these arguments, is asked for
 abbrev pub AsksOf : Text → List Row → Asked → Type 0

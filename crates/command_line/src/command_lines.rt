@@ -1,8 +1,8 @@
 //! What the words of a command line ask for.
 
-ghost use Rattle.std.specs.Prelude.{◌≡◌, ◌↔◌, false, IfNone, IfOk, IfSome, IsTrue, codes, length};
-ghost use Rattle.clap.specs.Words.{found_of, kind_of, rows_of, subcommand_rows_of};
-ghost use Rattle.command_line.specs.CommandLines.{texts_of, AsksDryBatch, AsksFor, AsksLinesAndEvents, AsksNamed, AsksOf, AsksTwoForms, AsksTwoSpellings, AsksUntoldEvents, Gives, GivesDocuments, GivesForm, GivesItem, GivesMost, GivesNumber, GivesOrNone, GivesSpelling, GivesTerms, GivesWays, IsCapture, IsCommand, IsMistake, IsSet, IsStart, IsToldAs, epcs_kind, has_many};
+ghost use Rattle.std.specs.Prelude.{◌≡◌, ◌↔◌, false, None, IfNone, IfOk, IfSome, IsTrue, codes, length};
+ghost use Rattle.clap.specs.Words.{first_of, found_of, kind_of, rows_of, subcommand_rows_of};
+ghost use Rattle.command_line.specs.CommandLines.{texts_of, AsksDryBatch, AsksFor, AsksIdleSpelling, AsksLinesAndEvents, AsksNamed, AsksOf, AsksTwoForms, AsksTwoSpellings, AsksUntoldEvents, Gives, GivesDocuments, GivesForm, GivesItem, GivesMost, GivesNumber, GivesOrNone, GivesSpelling, GivesTerms, GivesWays, IsCapture, IsCommand, IsMistake, IsSet, IsStart, IsToldAs, epcs_kind, has_many};
 
 use crate::asked::{Asked, Batch, FileCommand, Terms};
 use crate::convert_commands::convert_command;
@@ -43,6 +43,9 @@ fn named<'a>(alloc: Global, matches: &ArgMatches<'a>) -> Option<Asked<'a>>
     }
     if asks_untold_events(given) {
         return mistake(alloc, helps::UNTOLD_EVENTS).ok();
+    }
+    if asks_idle_spelling(name, given) {
+        return mistake(alloc, helps::IDLE_SPELLING).ok();
     }
     if name == "sim" {
         Some(Asked::Sim)
@@ -245,6 +248,23 @@ fn asks_untold_events(given: &ArgMatches<'_>) -> bool
         && (is_set(given, "csv") || is_set(given, "csv-guarded") || is_set(given, "dot"))
 }
 
+/// Whether it is said how an item is spelled where no item is given: at `items` without `--in`.
+fn asks_idle_spelling(name: &str, given: &ArgMatches<'_>) -> bool
+    ensures { IsTrue result ↔ AsksIdleSpelling name.now (rows_of (found_of given.now)) }
+{
+    name == "items" && is_absent(given, "in") && (is_set(given, "key") || is_set(given, "scan"))
+}
+
+/// Whether the argument of a name isn't there.
+fn is_absent(given: &ArgMatches<'_>, name: &str) -> bool
+    ensures { IsTrue result ↔ (first_of name.now (rows_of (found_of given.now)) ≡ None) }
+{
+    match given.get_str(name) {
+        Some(_) => false,
+        None => true,
+    }
+}
+
 /// The command of a name on the sites' files.
 fn file_command<'a>(name: &str, given: &ArgMatches<'a>) -> Option<FileCommand<'a>>
     ensures { IfSome result (λ c. IsCommand c name.now (rows_of (found_of given.now))) }
@@ -346,7 +366,27 @@ fn items_command<'a>(
                 text,
             })
         }
-        None => Some(FileCommand::Items { folder, site, text }),
+        None => known_items(folder, site, text, given),
+    }
+}
+
+/// The command that asks for the items that a site knows. None where it is said how an item is spelled: that is refused
+/// before.
+fn known_items<'a>(
+    folder: &'a str,
+    site: &'a str,
+    text: &'a str,
+    given: &ArgMatches<'a>,
+) -> Option<FileCommand<'a>>
+    requires folder { Gives (rows_of (found_of given.now)) (codes "dir") folder.now }
+    requires site { Gives (rows_of (found_of given.now)) (codes "site") site.now }
+    requires text { GivesOrNone (rows_of (found_of given.now)) (codes "text") text.now }
+    requires none { first_of (codes "in") (rows_of (found_of given.now)) ≡ None }
+    ensures { IfSome result (λ c. IsCommand c (codes "items") (rows_of (found_of given.now))) }
+{
+    match spelling_of(given)? {
+        Spelling::Epc => Some(FileCommand::Items { folder, site, text }),
+        Spelling::Key | Spelling::Scan => None,
     }
 }
 

@@ -23,6 +23,13 @@ error: '--events' is for text and '--json', and not for '--csv', '--csv-guarded'
 For more information, try '--help'.
 ";
 
+/// What is wrong where it is said how an item is spelled, and none is given.
+pub(crate) const IDLE_SPELLING: &str = "\
+error: '--key' and '--scan' tell how the item of '--in' is given, and there is no '--in'
+
+For more information, try '--help'.
+";
+
 /// What is wrong where both the lines and the events of a file are to be documents.
 pub(crate) const LINES_AND_EVENTS: &str = "\
 error: only one of '--lines' and '--each' can be given

@@ -7,5 +7,5 @@ pub returns-in_ok-spelling-in-Some : goal.returns-in_ok-spelling-in-Some
 returns-in_ok-spelling-in-Some c =
     (refl, c.requires.folder, c.requires.site, c.text_of-text.ensures, sym (c.in-Some.ensures ∙ first_value-rows (found_of c.args.given.now) (codes "in")), c.in_ok-spelling-in-Some.ensures.one)
 
-pub returns-in-None : goal.returns-in-None
-returns-in-None c = (refl, c.requires.folder, c.requires.site, c.text_of-text.ensures, sym (c.in-None.ensures ∙ first_value-rows (found_of c.args.given.now) (codes "in")))
+pub known_items-requires-clause-none : goal.known_items-requires-clause-none
+known_items-requires-clause-none c = sym (c.in-None.ensures ∙ first_value-rows (found_of c.args.given.now) (codes "in"))
