@@ -93,7 +93,7 @@ InputLine contents form task before sites source came after =
 -- behind the lines of the inputs, that of the totals; or the refusal of the site; or writing failed
 abbrev pub BatchEnds : Form → List Site → BatchCame → Option (List ℕ) → Option (List ℕ) → ℕ → Type 0
 BatchEnds form sites (batches.NoSite outcome) before after status = OutcomeEnds form sites outcome before after status
-BatchEnds form sites (batches.Taken totals untraced) before after status =
+BatchEnds form sites (batches.Taken totals noted) before after status =
     (WritesLines form (json_line (totals_json totals)) before after × (status ≡ totals_status totals)) ⊎ (status ≡ 3)
 
 -- ---- documents that are looked through

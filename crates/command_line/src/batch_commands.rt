@@ -10,7 +10,7 @@ use crate::limits::LimitsDocuments;
 use crate::sinks::InputLines;
 use folder_commands::{BatchCame, BatchOutput, take_inputs, task_of};
 use keeper_core::SiteKeeper;
-use outcome_forms::{write_totals, write_untraced};
+use outcome_forms::{write_noted, write_totals};
 use recall_outcomes::{Fault, Notes, Output};
 use site_folders::Files;
 use std::alloc::Global;
@@ -89,9 +89,9 @@ fn tell_batch<K: SiteKeeper, F: Files<K>, W: Write, E: Write>(
             };
             tell_output(alloc, form, files, &refused, output, errors)
         }
-        BatchCame::Taken { totals, untraced } => match write_totals(alloc, form, totals, output) {
+        BatchCame::Taken { totals, noted } => match write_totals(alloc, form, totals, output) {
             Ok(()) => {
-                write_untraced(alloc, form, &untraced, errors);
+                write_noted(alloc, form, &noted.untraced, noted.inside, errors);
                 totals.status()
             }
             Err(cause) => fault(alloc, form, files, cause, errors),

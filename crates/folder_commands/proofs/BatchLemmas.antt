@@ -214,7 +214,7 @@ module _ {S K F : Type 0} (shown : K → Option Record) (may : K → Record → 
         led = led_of broke.calls broke.led;
       }))
 
-  pub batch_taken : (output : BatchOutput) (end : Standing S) → output.sites ≡ sites → output.came ≡ batches.Taken run.counts.totals run.counts.untraced → Stands shown sites run hears end
+  pub batch_taken : (output : BatchOutput) (end : Standing S) → output.sites ≡ sites → output.came ≡ batches.Taken run.counts.totals run.counts.noted → Stands shown sites run hears end
       → Led does opened_files mid (TakesThose takes sites (ReadsWords kind words) (standing r heard (no_counts (task_of kind))) end) → Led does old new (TakesAll shown stored takes folder name kind words heard hears output)
   batch_taken output end same came at some =
       behind_list does folder (λ ss rest. (output.sites ≡ ss) × TakesWhere shown stored takes folder name kind words (named ss name) ss heard hears output.came rest) old first new sites listed
@@ -231,7 +231,7 @@ module _ {S K F : Type 0} (shown : K → Option Record) (may : K → Record → 
                 last = end;
                 taken = some.are;
                 told = sym at.hears;
-                came_is = came ∙ sym (ap (λ (counts : Counts). batches.Taken counts.totals counts.untraced) at.counts);
+                came_is = came ∙ sym (ap (λ (counts : Counts). batches.Taken counts.totals counts.noted) at.counts);
                 kept = run.keeper;
                 shows = at.shows;
                 lasts = lasts;

@@ -4,9 +4,9 @@ use Rattle.std.specs.Prelude.{IsUtf8}
 use Rattle.item_spellings.specs.Keys.{item_reading, reading_by}
 use Rattle.item_spellings.specs.declared.faults.SpellingFault.{SpellingFault}
 use Rattle.item_spellings.specs.declared.spellings.Spelling.{Spelling}
-use Rattle.event_json.specs.Sites.{Site}
 use Rattle.event_json.specs.Untraced.{text_untraced}
 use Rattle.event_json.specs.declared.untraced.Untraced.{Untraced}
+use Rattle.recall_outcomes.specs.Batches.{up}
 use Rattle.recall_outcomes.specs.declared.batches.InputOutcome.{InputOutcome}
 use Rattle.recall_outcomes.specs.declared.batches.InputOutcome.TheVariants as inputs
 use Rattle.recall_outcomes.specs.declared.faults.Fault.{Fault}
@@ -18,11 +18,13 @@ use Rattle.site_core.specs.declared.outcomes.Effects.{Effects}
 use Rattle.site_core.specs.declared.outcomes.Effects.TheVariants as told
 use Rattle.site_core.specs.declared.outcomes.Refusal.{Refusal}
 use Rattle.world_core.specs.Parts.{came_in}
-use Rattle.folder_commands.specs.Inputs.{AsksStep, PassesOver, ReadsAs, came_of}
+use Rattle.site_folders.specs.Missing.{CountsOwn}
+use Rattle.folder_commands.specs.Inputs.{AreNoted, AsksStep, NotesItem, NotesSpelled, ReadsAs, came_of}
 use Rattle.folder_commands.specs.Steps.{Steps}
 use Rattle.folder_commands.specs.Untraced.{with_untraced}
 use Rattle.folder_commands.specs.declared.inputs.Doing.{Doing}
 use Rattle.folder_commands.specs.declared.inputs.Doing.TheVariants as doings
+use Rattle.folder_commands.specs.declared.inputs.InputNotes.{InputNotes}
 
 -- the input is a capture or a start
 abbrev pub IsTaken : SiteInput → Type 0
@@ -70,18 +72,39 @@ pub steps_to : (old : Record) (after : Option Record) (input : SiteInput) (done 
 steps_to old None input done steps = absurd steps
 steps_to old (Some new) input done steps = (new, refl, steps)
 
--- what a document that was captured says that isn't traced is passed over
-pub passes_over : (sites : List Site) (document : List ℕ) (effects : Effects) (came : InputOutcome) (untraced before after : Untraced) → came_of effects ≡ Some came
-    → text_untraced sites document ≡ Ok untraced → after ≡ with_untraced before untraced → (old new : Record) → Steps old (Capture document) (Some new) (Ok effects) → PassesOver doings.Capture sites document came before after
-passes_over sites document (told.Captured fresh known skipped) came untraced before after is found counts old new does =
-    subst (λ c. PassesOver doings.Capture sites document c before after) (let same : inputs.Captured fresh known skipped ≡ came = cc in same) (untraced, found, counts)
-passes_over sites document (told.Started r quarantined numbered ended) came untraced before after is found counts old new does = absurd does
-passes_over sites document (told.Received quarantined numbered owed) came untraced before after is found counts old new does = absurd does
-passes_over sites document told.Repeat came untraced before after is found counts old new does = absurd does
-passes_over sites document told.Stale came untraced before after is found counts old new does = absurd does
-passes_over sites document told.Cleared came untraced before after is found counts old new does = absurd does
-passes_over sites document (told.ParentDue m) came untraced before after is found counts old new does = absurd does
-passes_over sites document (told.Ended r) came untraced before after is found counts old new does = absurd does
+-- what a document that was captured says that isn't traced is noted
+pub document_noted : (old : Record) (document : List ℕ) (effects : Effects) (came : InputOutcome) (untraced : Untraced) (before after : InputNotes) → came_of effects ≡ Some came
+    → text_untraced old.sites document ≡ Ok untraced → after ≡ record before { untraced = with_untraced before.untraced untraced } → (new : Record)
+    → Steps old (Capture document) (Some new) (Ok effects) → AreNoted doings.Capture old document came before after
+document_noted old document (told.Captured fresh known skipped) came untraced before after is found counts new does =
+    subst (λ c. AreNoted doings.Capture old document c before after) (let same : inputs.Captured fresh known skipped ≡ came = cc in same) (untraced, found, counts)
+document_noted old document (told.Started r quarantined numbered ended) came untraced before after is found counts new does = absurd does
+document_noted old document (told.Received quarantined numbered owed) came untraced before after is found counts new does = absurd does
+document_noted old document told.Repeat came untraced before after is found counts new does = absurd does
+document_noted old document told.Stale came untraced before after is found counts new does = absurd does
+document_noted old document told.Cleared came untraced before after is found counts new does = absurd does
+document_noted old document (told.ParentDue m) came untraced before after is found counts new does = absurd does
+document_noted old document (told.Ended r) came untraced before after is found counts new does = absurd does
+
+-- and so is how many items lie in one of which a recall was started
+pub item_noted : (old : Record) (item : List ℕ) (effects : Effects) (came : InputOutcome) (n : ℕ) (before after : InputNotes) → came_of effects ≡ Some came → CountsOwn old item n
+    → after ≡ record before { inside = up before.inside n } → (new : Record) → Steps old (Start item) (Some new) (Ok effects) → NotesItem old item came before after
+item_noted old item (told.Captured fresh known skipped) came n before after is counted counts new does = absurd does
+item_noted old item (told.Started r quarantined numbered ended) came n before after is counted counts new does =
+    subst (λ c. NotesItem old item c before after) (let same : inputs.Started r quarantined numbered ended ≡ came = cc in same) (n, counted, counts)
+item_noted old item (told.Received quarantined numbered owed) came n before after is counted counts new does = absurd does
+item_noted old item told.Repeat came n before after is counted counts new does = absurd does
+item_noted old item told.Stale came n before after is counted counts new does = absurd does
+item_noted old item told.Cleared came n before after is counted counts new does = absurd does
+item_noted old item (told.ParentDue m) came n before after is counted counts new does = absurd does
+item_noted old item (told.Ended r) came n before after is counted counts new does = absurd does
+
+-- of an item that a text spells
+pub spelled_noted : (spelling : Spelling) (old : Record) (text item : List ℕ) (came : InputOutcome) (before after : InputNotes) → ReadsAs spelling text (Ok item)
+    → NotesItem old item came before after → NotesSpelled spelling old text came before after
+spelled_noted spelling old text item (inputs.Captured fresh known skipped) before after read noted = noted
+spelled_noted spelling old text item (inputs.Started r new messages ended) before after read noted = (item, read, noted)
+spelled_noted spelling old text item (inputs.Refused why) before after read noted = noted
 
 -- a text that is UTF-8 was read
 pub reads_text : (spelling : Spelling) (bytes : List ℕ) (text : Bor (List ℕ)) (read : Result (List ℕ) SpellingFault) → text.now ≡ bytes → IsUtf8 bytes

@@ -13,7 +13,7 @@ use Rattle.site_folders.specs.FileCalls.{FileCall, ClosedSite, Failed, Led}
 use Rattle.site_folders.specs.Keepers.{KeepsSite, opens_site}
 use Rattle.site_folders.specs.Lists.{AfterList}
 use Rattle.site_folders.specs.Refusals.{IsNoSite}
-use Rattle.folder_commands.specs.Inputs.{ComesTo, FailsInput, Input, PassesOver}
+use Rattle.folder_commands.specs.Inputs.{AreNoted, ComesTo, FailsInput, Input}
 use Rattle.folder_commands.specs.Untraced.{none_untraced}
 use Rattle.folder_commands.specs.Words.{BeginsWords, ReadsWords, task_of}
 use Rattle.folder_commands.specs.declared.batches.BatchCame.{BatchCame}
@@ -34,16 +34,16 @@ standing site sink counts = record { site = site; sink = sink; counts = counts }
 
 -- before the first input
 abbrev pub no_counts : Task → Counts
-no_counts task = record { totals = none_yet task; untraced = none_untraced }
+no_counts task = record { totals = none_yet task; noted = record { untraced = none_untraced; inside = 0 } }
 
 module _ {S : Type 0} (takes : S → List Site → List ℕ → InputOutcome → S → Type 0) (sites : List Site) where
-  -- an input was taken or refused, and was told of; it counts, and so does what of it isn't traced by the sites of the record
+  -- an input was taken or refused, and was told of; it counts, and what there is to note of it was added to what was noted before
   pub record TakesOne (old : Standing S) (input : Input) (new : Standing S) : Type 0 where
     pub came : InputOutcome
     pub comes : ComesTo input.doing old.site input.bytes came new.site
     pub told : takes old.sink sites input.source came new.sink
     pub counted : new.counts.totals ≡ with_one old.counts.totals came
-    pub passed : PassesOver input.doing old.site.sites input.bytes came old.counts.untraced new.counts.untraced
+    pub noted : AreNoted input.doing old.site input.bytes came old.counts.noted new.counts.noted
 
   -- the inputs were taken one after another, each from where the one before it led
   abbrev pub Takes : Standing S → List Input → Standing S → Type 0
@@ -126,7 +126,8 @@ module _ {S K : Type 0} (shown : K → Option Record) (may : K → Record → Ty
 
 module _ {S K : Type 0} (shown : K → Option Record) (stored : K → Type 0) (takes : S → List Site → List ℕ → InputOutcome → S → Type 0) (folder name : List ℕ) (kind : WordKind) (words : List (List ℕ)) where
   -- The site's file was opened once. The inputs of the words were read and taken in order, and the file was closed in the record to
-  -- which the inputs lead, which a crash leaves there. What was passed over is that of the documents that were captured.
+  -- which the inputs lead, which a crash leaves there. What is noted is that of the documents that were captured, and of the items of
+  -- which recalls were started.
   pub record TakesAt (site : ℕ) (sites : List Site) (heard hears : S) (came : BatchCame) (calls : List (FileCall K)) : Type 0 where
     pub keeper : K
     pub record_before : Record
@@ -135,7 +136,7 @@ module _ {S K : Type 0} (shown : K → Option Record) (stored : K → Type 0) (t
     pub last : Standing S
     pub taken : TakesThose takes sites (ReadsWords kind words) (standing record_before heard (no_counts (task_of kind))) last reads
     pub told : hears ≡ last.sink
-    pub came_is : came ≡ batches.Taken last.counts.totals last.counts.untraced
+    pub came_is : came ≡ batches.Taken last.counts.totals last.counts.noted
     pub kept : K
     pub shows : shown kept ≡ Some last.site
     pub lasts : stored kept

@@ -1,6 +1,5 @@
 -- What comes of one input at a site: a document that it captures, or a text that spells an item of which it starts a recall.
 use Rattle.std.specs.Prelude.{◌≡◌, ◌⊎◌, ℕ, List, Option, Some, None, Result, Ok, Err, IsUtf8, string_bytes}
-use Rattle.event_json.specs.Sites.{Site}
 use Rattle.event_json.specs.Untraced.{text_untraced}
 use Rattle.event_json.specs.declared.untraced.Untraced.{Untraced}
 use Rattle.item_spellings.specs.Keys.{reading_by}
@@ -9,6 +8,7 @@ use Rattle.item_spellings.specs.declared.faults.SpellingFault.{SpellingFault}
 use Rattle.item_spellings.specs.declared.faults.SpellingFault.TheVariants.{NoEpc, NoKey, NoScan}
 use Rattle.item_spellings.specs.declared.spellings.Spelling.{Spelling}
 use Rattle.item_spellings.specs.declared.spellings.Spelling.TheVariants as spellings
+use Rattle.recall_outcomes.specs.Batches.{up}
 use Rattle.recall_outcomes.specs.declared.batches.InputOutcome.{InputOutcome}
 use Rattle.recall_outcomes.specs.declared.batches.InputOutcome.TheVariants.{Captured, Started, Refused}
 use Rattle.recall_outcomes.specs.declared.faults.Fault.{Fault}
@@ -20,12 +20,14 @@ use Rattle.site_core.specs.declared.inputs.SiteInput.TheVariants.{Capture, Start
 use Rattle.site_core.specs.declared.outcomes.Effects.{Effects}
 use Rattle.site_core.specs.declared.outcomes.Effects.TheVariants as effects
 use Rattle.site_core.specs.declared.outcomes.Refusal.{Refusal}
+use Rattle.site_folders.specs.Missing.{CountsOwn}
 use Rattle.site_folders.specs.Refusals.{refusal_of}
 use Rattle.folder_commands.specs.Steps.{FailsStep, Steps}
 use Rattle.folder_commands.specs.Untraced.{with_untraced}
 use Rattle.folder_commands.specs.declared.inputs.Doing.{Doing}
 use Rattle.folder_commands.specs.declared.inputs.Doing.TheVariants as doings
 use Rattle.folder_commands.specs.declared.inputs.Given.{Given}
+use Rattle.folder_commands.specs.declared.inputs.InputNotes.{InputNotes}
 
 -- an input: what the site does with it, where it comes from, and its bytes
 pub record Input : Type 0 where
@@ -81,12 +83,23 @@ abbrev pub ComesTo : Doing → Record → List ℕ → InputOutcome → Record �
 ComesTo doing old bytes came new =
     ComesByStep doing old bytes came new ⊎ ((fault : SpellingFault) × SpellsNone doing bytes fault × (came ≡ Refused (refusal_of fault)) × (new ≡ old))
 
--- what a document that was captured says that isn't traced is added to what was passed over; any other input adds nothing
-abbrev pub PassesOver : Doing → List Site → List ℕ → InputOutcome → Untraced → Untraced → Type 0
-PassesOver doings.Capture sites document (Captured fresh known skipped) before after =
-    (untraced : Untraced) × (text_untraced sites document ≡ Ok untraced) × (after ≡ with_untraced before untraced)
-PassesOver doings.Capture sites document other before after = after ≡ before
-PassesOver (doings.Start spelling) sites text came before after = after ≡ before
+-- of an item of which a recall was started it is noted how many lie in it by the packings of the record
+abbrev pub NotesItem : Record → List ℕ → InputOutcome → InputNotes → InputNotes → Type 0
+NotesItem old item (Started r new messages ended) before after = (n : ℕ) × CountsOwn old item n × (after ≡ record before { inside = up before.inside n })
+NotesItem old item other before after = after ≡ before
+
+-- the same of the item that a text spells
+abbrev pub NotesSpelled : Spelling → Record → List ℕ → InputOutcome → InputNotes → InputNotes → Type 0
+NotesSpelled spelling old text (Started r new messages ended) before after =
+    (item : List ℕ) × ReadsAs spelling text (Ok item) × NotesItem old item (Started r new messages ended) before after
+NotesSpelled spelling old text other before after = after ≡ before
+
+-- what a document that was captured says that isn't traced is noted, too; any other input adds nothing
+abbrev pub AreNoted : Doing → Record → List ℕ → InputOutcome → InputNotes → InputNotes → Type 0
+AreNoted doings.Capture old document (Captured fresh known skipped) before after =
+    (untraced : Untraced) × (text_untraced old.sites document ≡ Ok untraced) × (after ≡ record before { untraced = with_untraced before.untraced untraced })
+AreNoted doings.Capture old document other before after = after ≡ before
+AreNoted (doings.Start spelling) old text came before after = NotesSpelled spelling old text came before after
 
 -- From a record an input came to nothing, with this shown then and these records that may be opened: memory ran out before its
 -- step, or its step failed.

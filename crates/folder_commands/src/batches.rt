@@ -8,10 +8,10 @@ ghost use Rattle.folder_commands.specs.Batches.{BatchFails, TakesAll, TakesEach,
 ghost use Rattle.folder_commands.specs.Inputs.{input_of};
 ghost use Rattle.folder_commands.specs.Words.{BeginsLines, BeginsWord, BeginsWords, ReadsLines, ReadsWord, ReadsWords};
 
-use crate::inputs::{Doing, Given, done_with};
+use crate::inputs::{Doing, Given, InputNotes, done_with};
 use crate::untraced::none_untraced;
 use crate::words::{Batch, WordKind, line_input, read_document, read_events, task_of, word_input};
-use event_json::{Sites, Untraced};
+use event_json::Sites;
 use keeper_core::SiteKeeper;
 use recall_outcomes::{Fault, InputOutcome, Outcome, Task, Totals};
 use site_folders::{Files, no_site, open_site, sites_of};
@@ -53,19 +53,14 @@ pub enum BatchCame {
     /// The folder doesn't list the site, which is refused.
     NoSite(Outcome),
     /// The inputs were taken, or refused one by one.
-    Taken {
-        totals: Totals,
-        /// What the documents that were captured say and isn't traced, added up. Each count is at most 2^64 - 1, and
-        /// stays there.
-        untraced: Untraced,
-    },
+    Taken { totals: Totals, noted: InputNotes },
 }
 
-/// What the inputs so far came to, and what was passed over.
+/// What the inputs so far came to, and what is noted of them.
 #[derive(Clone, Copy, Debug)]
 pub(crate) struct Counts {
     pub(crate) totals: Totals,
-    pub(crate) untraced: Untraced,
+    pub(crate) noted: InputNotes,
 }
 
 /// A batch at a site whose file is open.
@@ -131,7 +126,7 @@ pub fn take_inputs<K: SiteKeeper, F: Files<K>, W, S: InputSink<W>>(
         sites: run.sites,
         came: BatchCame::Taken {
             totals: run.counts.totals,
-            untraced: run.counts.untraced,
+            noted: run.counts.noted,
         },
     })
 }
@@ -142,7 +137,10 @@ fn no_counts(task: Task) -> Counts
 {
     Counts {
         totals: Totals::new(task),
-        untraced: none_untraced(),
+        noted: InputNotes {
+            untraced: none_untraced(),
+            inside: 0,
+        },
     }
 }
 
@@ -251,17 +249,17 @@ fn take<K: SiteKeeper, W, S: InputSink<W>>(
     ensures { TakesEach K.shown K.may K.stored (S.takes sink.now) (input_of input ∷ []) run.old run.new
         output.old output.new result }
 {
-    let Counts { totals, untraced } = run.counts;
+    let Counts { totals, noted } = run.counts;
     let Given {
         doing,
         source,
         bytes,
     } = input;
-    let (came, untraced) = done_with(run.alloc, &mut run.keeper, doing, bytes, untraced)?;
+    let (came, noted) = done_with(run.alloc, &mut run.keeper, doing, bytes, noted)?;
     sink.take(output, &run.sites, source.as_str(), &came)?;
     run.counts = Counts {
         totals: totals.with(&came),
-        untraced,
+        noted,
     };
     Ok(())
 }

@@ -8,10 +8,10 @@ ghost use Rattle.site_core.specs.Records.{Record};
 ghost use Rattle.site_core.specs.Steps.{IsReadAs};
 ghost use Rattle.site_core.specs.declared.outcomes.Effects.{Effects};
 ghost use Rattle.site_core.specs.declared.outcomes.Refusal.{Refusal};
-ghost use Rattle.folder_commands.specs.Inputs.{ComesTo, FailsInput, PassesOver, ReadsAs, TellsInput, came_of, unread};
+ghost use Rattle.folder_commands.specs.Inputs.{AreNoted, ComesTo, FailsInput, NotesItem, ReadsAs, TellsInput, came_of, unread};
 ghost use Rattle.folder_commands.specs.Steps.{FailsStep, Steps};
 
-use crate::steps::step;
+use crate::steps::{inside_of, step};
 use crate::untraced::{untraced_of, with_untraced};
 use epc_core::Epc;
 use event_json::{Sequence, Untraced};
@@ -32,6 +32,16 @@ pub(crate) enum Doing {
     Start(Spelling),
 }
 
+/// What is noted of inputs that were taken. Each count is at most 2^64 - 1, and stays there.
+#[derive(Clone, Copy, Debug)]
+pub struct InputNotes {
+    /// What the documents that were captured say and isn't traced, added up.
+    pub untraced: Untraced,
+    /// How many items lie in those of which recalls were started, by the packings that the site captured, added up: the
+    /// recalls hold none of them.
+    pub inside: u64,
+}
+
 /// An input: what is done with it, and where it comes from.
 #[derive(Debug, Drop)]
 pub(crate) struct Given {
@@ -40,49 +50,49 @@ pub(crate) struct Given {
     pub(crate) bytes: Vec<u8>,
 }
 
-/// What comes of an input at a site, and what was passed over then.
+/// What comes of an input at a site, and what is noted then.
 pub(crate) fn done_with<K: SiteKeeper>(
     alloc: Global,
     keeper: &mut K,
     doing: Doing,
     bytes: Vec<u8>,
-    passed: Untraced,
-) -> Result<(InputOutcome, Untraced), Fault>
+    noted: InputNotes,
+) -> Result<(InputOutcome, InputNotes), Fault>
     ensures came { (old : Record) → K.shown keeper.old ≡ Some old
         → MatchResult result (λ r. (new : Record) × (K.shown keeper.new ≡ Some new)
-        × ComesTo doing old bytes.items r.0 new
-        × PassesOver doing old.sites bytes.items r.0 passed r.1)
+        × ComesTo doing old bytes.items r.0 new × AreNoted doing old bytes.items r.0 noted r.1)
         (FailsInput doing old bytes.items (K.shown keeper.new) (K.may keeper.new)) }
     ensures stored { K.stored keeper.old → K.stored keeper.new }
 {
     match doing {
-        Doing::Capture => captured(alloc, keeper, bytes, passed),
-        Doing::Start(spelling) => {
-            let came = started(alloc, keeper, spelling, bytes.as_slice())?;
-            Ok((came, passed))
-        }
+        Doing::Capture => captured(alloc, keeper, bytes, noted),
+        Doing::Start(spelling) => started(alloc, keeper, spelling, bytes.as_slice(), noted),
     }
 }
 
-/// What comes of a document at a site, and what was passed over then.
+/// What comes of a document at a site, and what is noted then.
 fn captured<K: SiteKeeper>(
     alloc: Global,
     keeper: &mut K,
     document: Vec<u8>,
-    passed: Untraced,
-) -> Result<(InputOutcome, Untraced), Fault>
+    noted: InputNotes,
+) -> Result<(InputOutcome, InputNotes), Fault>
     ensures came { (old : Record) → K.shown keeper.old ≡ Some old
         → MatchResult result (λ r. (new : Record) × (K.shown keeper.new ≡ Some new)
         × ComesTo Doing.Capture old document.items r.0 new
-        × PassesOver Doing.Capture old.sites document.items r.0 passed r.1)
+        × AreNoted Doing.Capture old document.items r.0 noted r.1)
         (FailsInput Doing.Capture old document.items (K.shown keeper.new) (K.may keeper.new)) }
     ensures stored { K.stored keeper.old → K.stored keeper.new }
 {
     let untraced = untraced_at(alloc, keeper, document.as_slice())?;
     let done = step(keeper, SiteInput::Capture(Sequence::from_vec(document)))?;
     match done {
-        Ok(effects) => Ok((came_of(effects), with_untraced(passed, untraced))),
-        Err(why) => Ok((InputOutcome::Refused(CommandRefusal::Step(why)), passed)),
+        Ok(effects) => {
+            let untraced = with_untraced(noted.untraced, untraced);
+            let inside = noted.inside;
+            Ok((came_of(effects), InputNotes { untraced, inside }))
+        }
+        Err(why) => Ok((InputOutcome::Refused(CommandRefusal::Step(why)), noted)),
     }
 }
 
@@ -100,39 +110,51 @@ fn untraced_at<K: SiteKeeper>(alloc: Global, keeper: &K, document: &[u8]) -> Res
     }
 }
 
-/// What comes of the start of a recall of the item that a text spells.
+/// What comes of the start of a recall of the item that a text spells, and what is noted then.
 fn started<K: SiteKeeper>(
     alloc: Global,
     keeper: &mut K,
     spelling: Spelling,
     text: &[u8],
-) -> Result<InputOutcome, Fault>
+    noted: InputNotes,
+) -> Result<(InputOutcome, InputNotes), Fault>
     ensures came { (old : Record) → K.shown keeper.old ≡ Some old
-        → MatchResult result (λ came. (new : Record) × (K.shown keeper.new ≡ Some new)
-        × ComesTo (Doing.Start spelling) old text.now came new)
+        → MatchResult result (λ r. (new : Record) × (K.shown keeper.new ≡ Some new)
+        × ComesTo (Doing.Start spelling) old text.now r.0 new
+        × AreNoted (Doing.Start spelling) old text.now r.0 noted r.1)
         (FailsInput (Doing.Start spelling) old text.now (K.shown keeper.new) (K.may keeper.new)) }
     ensures stored { K.stored keeper.old → K.stored keeper.new }
 {
     let read = item_in(alloc, spelling, text)?;
     match read {
-        Ok(item) => started_of(keeper, item),
-        Err(fault) => Ok(InputOutcome::Refused(refusal_of(fault))),
+        Ok(item) => started_of(alloc, keeper, item, noted),
+        Err(fault) => Ok((InputOutcome::Refused(refusal_of(fault)), noted)),
     }
 }
 
-/// What comes of the start of a recall of an item.
-fn started_of<K: SiteKeeper>(keeper: &mut K, item: Epc) -> Result<InputOutcome, Fault>
+/// What comes of the start of a recall of an item, and what is noted then.
+fn started_of<K: SiteKeeper>(
+    alloc: Global,
+    keeper: &mut K,
+    item: Epc,
+    noted: InputNotes,
+) -> Result<(InputOutcome, InputNotes), Fault>
     ensures came { (old : Record) → K.shown keeper.old ≡ Some old
-        → MatchResult result (λ came. (new : Record) × (K.shown keeper.new ≡ Some new)
+        → MatchResult result (λ r. (new : Record) × (K.shown keeper.new ≡ Some new)
         × (done : Result Effects Refusal) × Steps old (SiteInput.Start item) (Some new) done
-        × TellsInput done came)
+        × TellsInput done r.0 × NotesItem old item r.0 noted r.1)
         (FailsStep old (SiteInput.Start item) (K.shown keeper.new) (K.may keeper.new)) }
     ensures stored { K.stored keeper.old → K.stored keeper.new }
 {
+    let count = inside_of(alloc, keeper, &item)?;
     let done = step(keeper, SiteInput::Start(item))?;
     match done {
-        Ok(effects) => Ok(came_of(effects)),
-        Err(why) => Ok(InputOutcome::Refused(CommandRefusal::Step(why))),
+        Ok(effects) => {
+            let untraced = noted.untraced;
+            let inside = noted.inside.saturating_add(count);
+            Ok((came_of(effects), InputNotes { untraced, inside }))
+        }
+        Err(why) => Ok((InputOutcome::Refused(CommandRefusal::Step(why)), noted)),
     }
 }
 

@@ -18,6 +18,7 @@ mod untraced;
 mod words;
 
 pub use batches::{BatchCame, BatchOutput, InputSink, take_inputs};
+pub use inputs::InputNotes;
 pub use lints::{LintCame, LintOutput, LintSink, lint_documents};
 pub use making::init;
 pub use runs::{RunTerms, run_sites};

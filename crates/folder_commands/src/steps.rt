@@ -198,7 +198,11 @@ fn start_of<K: SiteKeeper>(
 }
 
 /// How many items lie in one, by the packings of the record that a keeper shows.
-fn inside_of<K: SiteKeeper>(alloc: Global, keeper: &K, item: &Epc) -> Result<u64, AllocError>
+pub(crate) fn inside_of<K: SiteKeeper>(
+    alloc: Global,
+    keeper: &K,
+    item: &Epc,
+) -> Result<u64, AllocError>
     ensures { (r : Record) → K.shown keeper.now ≡ Some r → IfOk result (CountsOwn r item.now) }
 {
     match keeper.view() {

@@ -7,7 +7,7 @@ use crate::advice::advice;
 use crate::fault_json::{fault_json, note_lines};
 use crate::fault_texts::{bare_line, fault_text};
 use crate::forms::Form;
-use crate::notes::{notes_text, places_text, untraced_text};
+use crate::notes::{inside_all_text, notes_text, places_text, untraced_text};
 use crate::sentences::sentences;
 use event_json::Untraced;
 use recall_outcomes::{Failure, Fault, Outcome, Output};
@@ -45,11 +45,19 @@ fn explain<E: Write>(alloc: Global, form: Form, outcome: &Outcome, errors: &mut 
     }
 }
 
-/// Writes what a batch of documents says and isn't traced.
-pub fn write_untraced<E: Write>(alloc: Global, form: Form, untraced: &Untraced, errors: &mut E)
+/// Writes what is noted of a batch: what its documents say and isn't traced, and how many items lie in those of which it
+/// started recalls.
+pub fn write_noted<E: Write>(
+    alloc: Global,
+    form: Form,
+    untraced: &Untraced,
+    inside: u64,
+    errors: &mut E,
+)
     ensures { AppendsText (E.contents errors.old) (E.contents errors.new) }
 {
     note(alloc, form, untraced_text(alloc, untraced), errors);
+    note(alloc, form, inside_all_text(alloc, inside), errors);
 }
 
 /// Writes a fault: its name, the file that it is about and what is known of that, and what it means. Its name alone,

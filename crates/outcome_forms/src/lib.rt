@@ -27,7 +27,7 @@ mod step_json;
 mod values;
 mod writing;
 
-pub use beside::{write_beside, write_fault, write_untraced};
+pub use beside::{write_beside, write_fault, write_noted};
 pub use fault_texts::{failure_line, fault_line};
 pub use forms::Form;
 pub use shown_texts::shown;

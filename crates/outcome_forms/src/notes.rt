@@ -24,6 +24,10 @@ const MISSED: &str =
 const INSIDE: &str =
     "note: so many items were packed into it, and where they went isn't told: `recall items <dir> <site> --in <epc>` lists them, to trace each and to start its recall\n";
 
+/// What it means where items lie in those of which recalls were started.
+const INSIDE_ALL: &str =
+    "note: so many items in all were packed into the recalled ones, and where they went isn't told: `recall items <dir> <site> --in <epc>` lists those in each, to trace each and to start its recall\n";
+
 /// The notes beside an outcome.
 pub(crate) fn notes_text(
     alloc: Global,
@@ -185,6 +189,16 @@ fn missed_items_text(
         text.push_str(format!(in alloc; "inside {count}\n")?.as_str())?;
         text.push_str(INSIDE)?;
     }
+    Ok(text)
+}
+
+/// How many items lie in those of which recalls were started, if any do.
+pub(crate) fn inside_all_text(alloc: Global, count: u64) -> Result<String, AllocError> {
+    if count == 0 {
+        return Ok(String::new(alloc));
+    }
+    let mut text = format!(in alloc; "inside {count}\n")?;
+    text.push_str(INSIDE_ALL)?;
     Ok(text)
 }
 

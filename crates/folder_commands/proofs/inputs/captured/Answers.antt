@@ -1,7 +1,8 @@
 use Rattle.std.proofs.Common.{ℕ, List, Ok, Err, refl, ◌∙◌, ap, subst, inl, inr}
+use Rattle.event_json.specs.declared.untraced.Untraced.{Untraced}
 use Rattle.site_core.specs.declared.inputs.SiteInput.TheVariants.{Capture}
 use Rattle.folder_commands.specs.Steps.{FailsStep, Steps}
-use Rattle.folder_commands.proofs.InputLemmas.{comes_of_step, passes_over, steps_to}
+use Rattle.folder_commands.proofs.InputLemmas.{comes_of_step, document_noted, steps_to}
 use Rattle.folder_commands.proofs.StepLemmas.{Finds, captured_found, match_err}
 use Rattle.folder_commands.proofs.inputs.captured.Goals as goal
 
@@ -30,7 +31,8 @@ returns-in-Ok-clause-came g c = λ old shows.
       new,
       is,
       inl (record { input = Capture document; asks = refl; done = Ok c.in-Ok.effects; stepped = leads; told = c.came_of.ensures }),
-      passes_over old.sites document c.in-Ok.effects c.came_of.result c.in_ok-untraced.untraced c.args.passed c.with_untraced.result c.came_of.ensures found c.with_untraced.ensures old new leads,
+      document_noted old document c.in-Ok.effects c.came_of.result c.in_ok-untraced.untraced c.args.noted (record { untraced = c.with_untraced-untraced.result; inside = c.args.noted.inside }) c.came_of.ensures found
+          (ap (λ (u : Untraced). record c.args.noted { untraced = u }) c.with_untraced-untraced.ensures) new leads,
     )
 
 pub returns-in-Err-clause-came : goal.returns-in-Err-clause-came
