@@ -222,7 +222,7 @@ tied() {
         printf ']}}'
     } >"$work/document"
     "$recall" convert --lots "$work/document" >"$work/converted" 2>"$work/printed" || failed=1
-    echo "note: written 1 events $((1 + $3)) lots 0 derived $3 untied $4 left 0" >"$work/wanted"
+    echo "note: written 1 events $((1 + $3)) links 0 lots 0 derived $3 untied $4 left 0" >"$work/wanted"
     if ! diff -u --label 'as it should be' --label "$1 units of $2 lots" "$work/wanted" "$work/printed"; then
         failed=1
     fi

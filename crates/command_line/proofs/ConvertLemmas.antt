@@ -9,6 +9,7 @@ use Rattle.std.proofs.lemmas.List.Folds.{list_any-append}
 use Rattle.serde_json.specs.Data.{Data}
 use Rattle.document_convert.specs.Converted.{AreLinesOf, documents_of, refusals_of}
 use Rattle.document_convert.specs.Texts.{pieces_of}
+use Rattle.document_convert.specs.declared.converting.Conversion.{Conversion}
 use Rattle.recall_outcomes.specs.declared.faults.Fault.{Fault}
 use Rattle.recall_outcomes.specs.declared.faults.Fault.TheVariants.{NoMemory, Write}
 use Rattle.site_folders.specs.Faults.{OnlyAsks}
@@ -30,18 +31,18 @@ or_false a b = ap (λ c. a || c) (last b)
     last true = refl
     last false = refl
 
-module _ {K W : Type 0} (contents : W → Option (List ℕ)) (lots : Bool) where
+module _ {K W : Type 0} (contents : W → Option (List ℕ)) (ways : Conversion) where
   -- no file yet
-  pub none_converted : (out : W) → Converts {K = K} contents lots [] out out false []
+  pub none_converted : (out : W) → Converts {K = K} contents ways [] out out false []
   none_converted out = record { files = []; of_paths = refl; read = refl; lines = []; are = refl; written = Appends-nil (contents out); refused_is = refl }
 
   -- a file more
   pub one_converted : (paths : List (List ℕ)) (path : List ℕ) (a b c : W) (earlier refused : Bool) (calls more : List (FileCall K))
-      → Converts contents lots paths a b earlier calls → ConvertsOne contents lots path b c earlier refused more
-      → Converts contents lots (paths ++ path ∷ []) a c refused (calls ++ more)
+      → Converts contents ways paths a b earlier calls → ConvertsOne contents ways path b c earlier refused more
+      → Converts contents ways (paths ++ path ∷ []) a c refused (calls ++ more)
   one_converted paths path a b c earlier refused calls more done one =
       let file : List ℕ × List ℕ = (path, one.text) in
-      let documents : List ℕ × List ℕ → List Data = λ f. documents_of lots (pieces_of f.1) in
+      let documents : List ℕ × List ℕ → List Data = λ f. documents_of ways (pieces_of f.1) in
       let told : List ℕ × List ℕ → Bool = λ f. is_told (refusals_of (pieces_of f.1)) in
       let call : List ℕ × List ℕ → FileCall K = λ f. ReadFile f.0 f.1 in
       record {
@@ -65,14 +66,14 @@ module _ {K W : Type 0} (contents : W → Option (List ℕ)) (lots : Bool) where
   reads_ask [] = none_asks
   reads_ask (file ∷ files) = asks_first (ReadFile file.0 file.1) (map (λ f. ReadFile f.0 f.1) files) tt (reads_ask files)
 
-  pub converts_ask : (paths : List (List ℕ)) (a b : W) (refused : Bool) (calls : List (FileCall K)) → Converts contents lots paths a b refused calls → OnlyAsks calls
+  pub converts_ask : (paths : List (List ℕ)) (a b : W) (refused : Bool) (calls : List (FileCall K)) → Converts contents ways paths a b refused calls → OnlyAsks calls
   converts_ask paths a b refused calls done = subst (λ cs. OnlyAsks cs) (sym done.read) (reads_ask done.files)
 
   breaks_ask : (path : List ℕ) (a b : W) (fault : Fault) (calls : List (FileCall K)) → BreaksAt contents path a b fault calls → OnlyAsks calls
   breaks_ask path a b fault calls (inl (is, same)) = subst (λ cs. OnlyAsks cs) (sym is) (asks_first (Failed path fault) [] tt none_asks)
   breaks_ask path a b fault calls (inr (text, is, why)) = subst (λ cs. OnlyAsks cs) (sym is) (asks_first (ReadFile path text) [] tt none_asks)
 
-  pub fails_ask : (paths : List (List ℕ)) (a b : W) (fault : Fault) (calls : List (FileCall K)) → ConvertFails contents lots paths a b fault calls → OnlyAsks calls
+  pub fails_ask : (paths : List (List ℕ)) (a b : W) (fault : Fault) (calls : List (FileCall K)) → ConvertFails contents ways paths a b fault calls → OnlyAsks calls
   fails_ask paths a b fault calls fails =
       subst (λ cs. OnlyAsks cs) (sym fails.calls_are)
       (asks_then fails.first fails.last (converts_ask fails.done a fails.mid fails.refused fails.first fails.converted) (breaks_ask fails.path fails.mid b fault fails.last fails.broke))
@@ -103,15 +104,15 @@ paths_parted paths n d few =
     ∙ append_assoc (map now (take n paths)) ((get_or paths n d).now ∷ []) (map now (drop (n + 1) paths))
 
 -- behind other files
-pub convert_broke : {F K W : Type 0} (does : F → FileCall K → F → Type 0) (contents : W → Option (List ℕ)) (lots : Bool) (old mid new : F) (before between after : W) (refused : Bool)
+pub convert_broke : {F K W : Type 0} (does : F → FileCall K → F → Type 0) (contents : W → Option (List ℕ)) (ways : Conversion) (old mid new : F) (before between after : W) (refused : Bool)
     (paths done others : List (List ℕ)) (path : List ℕ) (fault : Fault) → paths ≡ done ++ path ∷ others
-    → Led does old mid (Converts contents lots done before between refused) → Led does mid new (BreaksAt contents path between after fault)
-    → Led does old new (ConvertFails contents lots paths before after fault)
-convert_broke {F} {K} does contents lots old mid new before between after refused paths done others path fault are first fails =
+    → Led does old mid (Converts contents ways done before between refused) → Led does mid new (BreaksAt contents path between after fault)
+    → Led does old new (ConvertFails contents ways paths before after fault)
+convert_broke {F} {K} does contents ways old mid new before between after refused paths done others path fault are first fails =
     led_then does old mid new both first fails
   where
-    both : (xs ys : List (FileCall K)) → Converts contents lots done before between refused xs → BreaksAt contents path between after fault ys
-        → ConvertFails contents lots paths before after fault (xs ++ ys)
+    both : (xs ys : List (FileCall K)) → Converts contents ways done before between refused xs → BreaksAt contents path between after fault ys
+        → ConvertFails contents ways paths before after fault (xs ++ ys)
     both xs ys converted broke = record {
       done = done;
       path = path;

@@ -190,9 +190,9 @@ module _ {F K G W : Type 0} (does : F → FileCall K → F → Type 0) (waits li
   -- documents that are converted
   convert_acts : (files : ConvertFiles) (mid new : F) (before after : W) (status : ℕ) → ConvertEnds does contents files mid new before after status → Led does mid new (AreActsOfSites shown may)
   convert_acts files mid new before after status (inl (refused, led, is)) =
-      led_so does mid new (λ calls l. asked_acts shown may opens stored calls (converts_ask contents files.lots _ before after refused calls l)) led
+      led_so does mid new (λ calls l. asked_acts shown may opens stored calls (converts_ask contents files.ways _ before after refused calls l)) led
   convert_acts files mid new before after status (inr (fault, led, is)) =
-      led_so does mid new (λ calls l. asked_acts shown may opens stored calls (fails_ask contents files.lots _ before after fault calls l)) led
+      led_so does mid new (λ calls l. asked_acts shown may opens stored calls (fails_ask contents files.ways _ before after fault calls l)) led
 
   -- however a command line ends
   pub ends_acts : (words : List (String Global)) (old new : F) (before after : Streams W) (status : ℕ) → Ends does waits limits knows shown failed may reopens gives_up stored contents words old new before after status → LeadByActs shown may does old new

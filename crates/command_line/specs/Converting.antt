@@ -5,6 +5,7 @@ use Rattle.std.specs.List.{flat_map, list_any}
 use Rattle.std.specs.Io.KnownBytes.{Appends}
 use Rattle.document_convert.specs.Converted.{AreLinesOf, documents_of, refusals_of}
 use Rattle.document_convert.specs.Texts.{pieces_of}
+use Rattle.document_convert.specs.declared.converting.Conversion.{Conversion}
 use Rattle.document_convert.specs.declared.converting.Refused.{Refused}
 use Rattle.recall_outcomes.specs.declared.faults.Fault.{Fault}
 use Rattle.recall_outcomes.specs.declared.faults.Fault.TheVariants.{NoMemory, Write}
@@ -22,22 +23,22 @@ converted_status refused = if refused then 1 else 0
 module _ {K W : Type 0} (contents : W → Option (List ℕ)) where
   -- The files of these paths were read, one after another, and the lines of their documents were written, in order; or something in
   -- them is none, too.
-  pub record Converts (lots : Bool) (paths : List (List ℕ)) (before after : W) (refused : Bool) (calls : List (FileCall K)) : Type 0 where
+  pub record Converts (ways : Conversion) (paths : List (List ℕ)) (before after : W) (refused : Bool) (calls : List (FileCall K)) : Type 0 where
     -- each path with its text
     pub files : List (List ℕ × List ℕ)
     pub of_paths : map (λ file. file.0) files ≡ paths
     pub read : calls ≡ map (λ file. ReadFile file.0 file.1) files
     pub lines : List ℕ
-    pub are : AreLinesOf (flat_map (λ file. documents_of lots (pieces_of file.1)) files) lines
+    pub are : AreLinesOf (flat_map (λ file. documents_of ways (pieces_of file.1)) files) lines
     pub written : Appends (contents before) (contents after) lines
     pub refused_is : refused ≡ list_any (λ file. is_told (refusals_of (pieces_of file.1))) files
 
   -- one file more
-  pub record ConvertsOne (lots : Bool) (path : List ℕ) (before after : W) (earlier refused : Bool) (calls : List (FileCall K)) : Type 0 where
+  pub record ConvertsOne (ways : Conversion) (path : List ℕ) (before after : W) (earlier refused : Bool) (calls : List (FileCall K)) : Type 0 where
     pub text : List ℕ
     pub read : calls ≡ ReadFile path text ∷ []
     pub lines : List ℕ
-    pub are : AreLinesOf (documents_of lots (pieces_of text)) lines
+    pub are : AreLinesOf (documents_of ways (pieces_of text)) lines
     pub written : Appends (contents before) (contents after) lines
     pub refused_is : refused ≡ (earlier || is_told (refusals_of (pieces_of text)))
 
@@ -48,7 +49,7 @@ module _ {K W : Type 0} (contents : W → Option (List ℕ)) where
       ⊎ ((text : List ℕ) × (calls ≡ ReadFile path text ∷ []) × (((fault ≡ NoMemory) × (after ≡ before)) ⊎ (fault ≡ Write)))
 
   -- the files before one were converted, and that one ended it
-  pub record ConvertFails (lots : Bool) (paths : List (List ℕ)) (before after : W) (fault : Fault) (calls : List (FileCall K)) : Type 0 where
+  pub record ConvertFails (ways : Conversion) (paths : List (List ℕ)) (before after : W) (fault : Fault) (calls : List (FileCall K)) : Type 0 where
     pub done : List (List ℕ)
     pub path : List ℕ
     pub others : List (List ℕ)
@@ -56,7 +57,7 @@ module _ {K W : Type 0} (contents : W → Option (List ℕ)) where
     pub mid : W
     pub refused : Bool
     pub first : List (FileCall K)
-    pub converted : Converts lots done before mid refused first
+    pub converted : Converts ways done before mid refused first
     pub last : List (FileCall K)
     pub broke : BreaksAt path mid after fault last
     pub calls_are : calls ≡ first ++ last
@@ -65,9 +66,9 @@ module _ {F K W : Type 0} (does : F → FileCall K → F → Type 0) (contents :
   -- all files were converted, or a fault ended it
   abbrev pub ConvertEnds : ConvertFiles → F → F → W → W → ℕ → Type 0
   ConvertEnds asked old new before after status =
-      ((refused : Bool) × Led does old new (Converts contents asked.lots (map (λ p. p.now) asked.paths.items) before after refused)
+      ((refused : Bool) × Led does old new (Converts contents asked.ways (map (λ p. p.now) asked.paths.items) before after refused)
       × (status ≡ converted_status refused))
-      ⊎ ((fault : Fault) × Led does old new (ConvertFails contents asked.lots (map (λ p. p.now) asked.paths.items) before after fault)
+      ⊎ ((fault : Fault) × Led does old new (ConvertFails contents asked.ways (map (λ p. p.now) asked.paths.items) before after fault)
       × (status ≡ 3))
 
 module _ {F K W : Type 0} (does : F → FileCall K → F → Type 0) (limits : F → ℕ → F → Type 0) (contents : W → Option (List ℕ)) where

@@ -13,7 +13,7 @@ use crate::limits::LimitsDocuments;
 use crate::sinks::print;
 use crate::statuses;
 use clap::ArgMatches;
-use document_convert::{Account, Converted, Refused, convert};
+use document_convert::{Account, Conversion, Converted, Refused, convert};
 use event_json::Sites;
 use keeper_core::SiteKeeper;
 use outcome_forms::{Form, write_input};
@@ -28,8 +28,8 @@ use std::io::Write;
 #[derive(Debug, Drop)]
 pub(crate) struct ConvertFiles<'a> {
     pub(crate) paths: Vec<&'a str>,
-    /// Whether lots of quantities are put among the items.
-    pub(crate) lots: bool,
+    /// What is converted of each document.
+    pub(crate) ways: Conversion,
     /// How many bytes a file has at most.
     pub(crate) most: u64,
     /// How the account and what is refused are printed.
@@ -53,13 +53,14 @@ pub(crate) fn convert_command<'a>(
     requires { GivesForm (rows_of (found_of given.now)) form }
     ensures { IfSome result (IsConvertCommand (rows_of (found_of given.now))) }
 {
-    let lots = is_set(given, "lots");
+    let (lots, links) = (is_set(given, "lots"), is_set(given, "links"));
+    let ways = Conversion { lots, links };
     let most = most_of(given)?;
     let paths = given.get_strs("file")?;
     let paths = copied(alloc, paths).ok()?;
     Some(Asked::Convert(ConvertFiles {
         paths,
-        lots,
+        ways,
         most,
         form,
     }))
@@ -108,10 +109,10 @@ fn convert_all<K: SiteKeeper, F: Files<K>, W: Write, E: Write>(
     errors: &mut E,
 ) -> Result<Total, Fault>
     ensures all { IfOk result (λ total. Led F.does files.old files.new
-        (Converts W.contents asked.now.lots (map (λ p. p.now) paths.now) output.old output.new
+        (Converts W.contents asked.now.ways (map (λ p. p.now) paths.now) output.old output.new
         total.refused)) }
     ensures failed { IfErr result (λ fault. Led F.does files.old files.new
-        (ConvertFails W.contents asked.now.lots (map (λ p. p.now) paths.now) output.old output.new
+        (ConvertFails W.contents asked.now.ways (map (λ p. p.now) paths.now) output.old output.new
         fault)) }
 {
     let mut total = Total::new();
@@ -132,13 +133,13 @@ fn convert_file<K: SiteKeeper, F: Files<K>, W: Write, E: Write>(
     errors: &mut E,
 ) -> Result<Total, Fault>
     ensures all { IfOk result (λ after. Led F.does files.old files.new
-        (ConvertsOne W.contents asked.now.lots path.now output.old output.new total.refused
+        (ConvertsOne W.contents asked.now.ways path.now output.old output.new total.refused
         after.refused)) }
     ensures failed { IfErr result (λ fault. Led F.does files.old files.new
         (BreaksAt W.contents path.now output.old output.new fault)) }
 {
     let bytes = files.read(alloc, path)?;
-    let converted = convert(alloc, bytes.as_slice(), asked.lots)?;
+    let converted = convert(alloc, bytes.as_slice(), asked.ways)?;
     tell_refused(
         alloc,
         asked.form,

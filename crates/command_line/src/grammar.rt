@@ -463,6 +463,11 @@ fn convert<'a>(alloc: Global) -> Result<Command<'a>, AllocError>
             "lots",
             "Put the lots of quantity lists among the items",
         ))?
+        .arg(flag(
+            alloc,
+            "links",
+            "Write units of links on any host, and of element strings, on id.gs1.org",
+        ))?
         .arg(max_bytes(alloc))
 }
 

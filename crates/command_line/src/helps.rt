@@ -363,13 +363,15 @@ array of these. The type of an event may stand in `@type` or `isA`. A byte order
 each lot of a list of quantities stands among the items of the list, by its one spelling,
 https://id.gs1.org/01/<gtin>/10/<lot>, and so does each lot that an event names among its items; an event of which an
 element has no lot stays as it is. A lot that the `ilmd` of an event names leads to the units that the event brings
-forth, by an event behind it.
+forth, by an event behind it. With `--links` a unit that is given by a Digital Link on any host, or by element strings
+in brackets, becomes its link on id.gs1.org.
 
 The error stream tells what is no document, `refused Doc Syntax` or `NotDocument` with the file and the line, and
-then `note: written <documents> events <events> lots <lots> derived <events> untied <events> left <events>`: those
-that are derived lead from a lot to its units, those that are untied have too many lots or units, and no such event,
-and those that are left still have quantities, with which a capture refuses them. Ask for `--lots` from the
-first capture of a folder on: an event that was captured without it is another one with it.
+then an account, as `note: written 1 events 3 links 0 lots 2 derived 1 untied 0 left 0`: the documents, their events,
+events of which a link was written otherwise, lots among the items, events from a lot to its units, events with too
+many lots or units and without such an event, and events that still have quantities, with which a capture refuses
+them. Ask for `--lots` and `--links` from the first capture of a folder on: an event that was captured without them is
+another one with them.
 
 Examples:
   recall convert answer-of-a-query.json | recall capture chain dairy - --lines

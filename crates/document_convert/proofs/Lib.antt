@@ -9,6 +9,7 @@ pub mod EventLaws
 pub mod ReadLaws
 pub mod HeldLaws
 pub mod LotLemmas
+pub mod LinkLemmas
 pub mod Without
 pub mod Moved
 pub mod LotSpellings
@@ -23,3 +24,7 @@ pub mod RespelledLaws
 pub mod LineLemmas
 pub mod ConvertLemmas
 pub mod UnitLaws
+pub mod LinkedLaws
+pub mod UnitKeys
+pub mod LinkPaths
+pub mod UnitLinks

@@ -10,10 +10,11 @@ use Rattle.serde_json.specs.View.{items_of}
 use Rattle.event_json.specs.Checks.{type_text}
 use Rattle.event_json.specs.Members.{member_named}
 use Rattle.event_json.specs.Untraced.{in_order}
+use Rattle.document_convert.specs.Lots.{lot_of}
 use Rattle.document_convert.specs.Quantities.{and_texts, list_of, lot_in, lots_in, lots_of, with_its_lots}
-use Rattle.document_convert.specs.Respelled.{respelled_item, respelled_text, spells_otherwise, with_spelled_lots}
+use Rattle.document_convert.specs.Respelled.{respelled_item, respelled_text, spells_otherwise_by, with_spelled, with_spelled_lots}
 use Rattle.document_convert.specs.Lotted.{converted_event, lotted}
-use Rattle.document_convert.specs.LotLaws.{AreFilled, IsFilled, IsMoved, IsRespelled, KeepsItems, KeepsLots, KeepsParent, Names, NamesLot, NothingGetsLost}
+use Rattle.document_convert.specs.LotLaws.{AreFilled, IsFilled, IsMoved, IsSpelled, KeepsItems, KeepsLots, KeepsParent, Names, NamesLot, NothingGetsLost}
 use Rattle.document_convert.proofs.Beside.{array_there, lots_beside, names_beside, same_member, same_type}
 use Rattle.document_convert.proofs.Has.{cases, here, there}
 use Rattle.document_convert.proofs.Lists.{listed_back}
@@ -25,7 +26,7 @@ use Rattle.document_convert.proofs.RespelledLaws.{events_are_respelled}
 -- ---- lists
 
 -- in a list that is respelled
-names_respelled : (name text : List ℕ) (d found : Data) → IsRespelled name d found → Names name text d → Names name (respelled_text text) found
+names_respelled : (name text : List ℕ) (d found : Data) → IsSpelled lot_of name d found → Names name text d → Names name (respelled_text text) found
 names_respelled name text d found respelled (list, its, has) =
     let there = array_there (member_named name d) list text its has in (
       items_of (map respelled_item (in_order list)),
@@ -173,13 +174,13 @@ type_both d filled = same_type d (with_its_lots d) (beside_both in_quantities in
 
 -- one of two lists that are respelled, one after the other
 module _ (ii oi : List ℕ) (mid half found : Data) where
-  first_respelled : (text : List ℕ) → (ii ≡ oi → ⊥) → IsRespelled ii mid half → IsRespelled oi half found → Names ii text mid → Names ii (respelled_text text) found
+  first_respelled : (text : List ℕ) → (ii ≡ oi → ⊥) → IsSpelled lot_of ii mid half → IsSpelled lot_of oi half found → Names ii text mid → Names ii (respelled_text text) found
   first_respelled text apart ins outs names = names_beside ii (respelled_text text) half found (outs.others ii apart) (names_respelled ii text mid half ins names)
 
-  second_respelled : (text : List ℕ) → (oi ≡ ii → ⊥) → IsRespelled ii mid half → IsRespelled oi half found → Names oi text mid → Names oi (respelled_text text) found
+  second_respelled : (text : List ℕ) → (oi ≡ ii → ⊥) → IsSpelled lot_of ii mid half → IsSpelled lot_of oi half found → Names oi text mid → Names oi (respelled_text text) found
   second_respelled text apart ins outs names = names_respelled oi text half found outs (names_beside oi text mid half (ins.others oi apart) names)
 
-  lots_stay : (name lot : List ℕ) → (name ≡ ii → ⊥) → (name ≡ oi → ⊥) → IsRespelled ii mid half → IsRespelled oi half found → NamesLot name lot mid → NamesLot name lot found
+  lots_stay : (name lot : List ℕ) → (name ≡ ii → ⊥) → (name ≡ oi → ⊥) → IsSpelled lot_of ii mid half → IsSpelled lot_of oi half found → NamesLot name lot mid → NamesLot name lot found
   lots_stay name lot a b ins outs names = lots_beside name lot half found (outs.others name b) (lots_beside name lot mid half (ins.others name a) names)
 
 inputs : (d : Data) → type_text d ≡ Some (codes "TransformationEvent") → HoldsItems in_items d × HoldsLots in_quantities in_items d
@@ -285,7 +286,7 @@ type_of_transformation d is =
     same_type half (lotted d) (outs.others (codes "type") (λ e. cc)) ∙ same_type mid half (ins.others (codes "type") (λ e. cc)) ∙ filled
 
 pub type_stays : (d : Data) → type_text (lotted d) ≡ type_text d
-unfolding with_its_lots with_spelled_lots spells_otherwise
+unfolding with_its_lots with_spelled spells_otherwise_by
 type_stays d = of_type (type_text d) refl
   where
     is_named : (text name : List ℕ) → type_text d ≡ Some text → bytes_eq text name ≡ true → type_text d ≡ Some name

@@ -22,7 +22,7 @@ use Rattle.document_convert.specs.Quantities.{has_by, has_elements, has_quantiti
 use Rattle.document_convert.specs.LotLaws.{ReadStaysWithLots, WithoutStays}
 use Rattle.document_convert.specs.LotEvents.{has_unit_lots}
 use Rattle.document_convert.specs.Lotted.{document_with_lots, has_lots, lotted}
-use Rattle.document_convert.specs.Respelled.{spells_otherwise, with_spelled_lots}
+use Rattle.document_convert.specs.Respelled.{spells_otherwise, with_spelled}
 use Rattle.document_convert.proofs.MadeLots.{no_unit_lots, none_behind}
 use Rattle.document_convert.proofs.ReadLaws.{ReadList, read_list, same_Ok}
 use Rattle.document_convert.proofs.Settled.{is_document}
@@ -262,7 +262,7 @@ none_of_all (e ∷ es) a b c =
     rw (first.0, second.0, third.0) (none_of_all es first.1 second.1 third.1)
 
 lotted_stays : (d : Data) → has_quantities d ≡ false → spells_otherwise d ≡ false → lotted d ≡ d
-unfolding with_spelled_lots
+unfolding with_spelled
 lotted_stays d none also =
     let same = without_stays d none in
     rw (same, also) refl

@@ -174,7 +174,7 @@ is_derived d e has =
 
 -- ---- the events of a document
 
-listed_object : (d : Data) (items : Items) → listed d ≡ Some items → (ms : Members) × (d ≡ object ms)
+pub listed_object : (d : Data) (items : Items) → listed d ≡ Some items → (ms : Members) × (d ≡ object ms)
 unfolding listed
 listed_object null items is = cc
 listed_object (boolean b) items is = cc
@@ -183,7 +183,7 @@ listed_object (string s) items is = cc
 listed_object (array ds) items is = cc
 listed_object (object ms) items is = (ms, refl)
 
-around_events : (ms : Members) (es : List Data) → event_list (document_around (object ms) es) ≡ Ok (items_of es)
+pub around_events : (ms : Members) (es : List Data) → event_list (document_around (object ms) es) ≡ Ok (items_of es)
 unfolding event_list
 around_events ms es = rw (around_type ms es, around_list ms es) refl
 
@@ -210,7 +210,7 @@ found_in d events is named = by (list_any has_lots (in_order events)) refl
     by false none = rw (named, list, none) (is ∙ ap Ok (sym (ap items_of (same_where_none (in_order events) none) ∙ items_back events)))
 
 -- a bare event is named by its type
-alone_type : (d : Data) (items : Items) → event_list d ≡ Ok items → is_text is_document (type_text d) ≡ false → (text : List ℕ) × (type_text d ≡ Some text) × (is_some (type_named text) ≡ true)
+pub alone_type : (d : Data) (items : Items) → event_list d ≡ Ok items → is_text is_document (type_text d) ≡ false → (text : List ℕ) × (type_text d ≡ Some text) × (is_some (type_named text) ≡ true)
 unfolding event_list
 alone_type d items is other = of_type (type_text d) refl other
   where

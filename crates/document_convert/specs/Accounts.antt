@@ -5,7 +5,9 @@ use Rattle.serde_json.specs.Find.{as_array}
 use Rattle.event_json.specs.Checks.{type_text}
 use Rattle.event_json.specs.Members.{count_of, member_named}
 use Rattle.event_json.specs.Untraced.{listed_events}
+use Rattle.document_convert.specs.Links.{link_of}
 use Rattle.document_convert.specs.Quantities.{has_quantities}
+use Rattle.document_convert.specs.Respelled.{spells_otherwise_by}
 use Rattle.document_convert.specs.UnitLots.{is_untied}
 use Rattle.document_convert.specs.declared.accounts.Account.{Account}
 
@@ -42,23 +44,29 @@ quantities d = elements_from 0 (listed_events d)
 -- ---- all documents
 
 abbrev pub none_yet : Account
-none_yet = record { written = 0; events = 0; lots = 0; derived = 0; untied = 0; left = 0 }
+none_yet = record { written = 0; events = 0; links = 0; lots = 0; derived = 0; untied = 0; left = 0 }
 
 -- how many events a document has
 abbrev pub event_count : Data → ℕ
 event_count d = length (listed_events d)
+
+-- how many events of a document spell a unit otherwise than by its link, where that is asked for
+abbrev pub links_of : Bool → Data → ℕ
+links_of true d = count_by (spells_otherwise_by link_of) (listed_events d)
+links_of false d = 0
 
 -- how many events of a document have more lots of units than are tied to these, where that is asked for
 abbrev pub untied_of : Bool → Data → ℕ
 untied_of true d = count_by is_untied (listed_events d)
 untied_of false d = 0
 
--- with a document that had so many quantities, events, and events with too many lots, as it was written: each of the quantities that isn't
--- left is a lot among the items, and each event more was derived
-abbrev pub with_document : Account → ℕ → ℕ → ℕ → Data → Account
-with_document a had came untied d = record {
+-- with a document that had so many quantities, events, events with units as links now, and events with too many lots, as it was written: each of
+-- the quantities that isn't left is a lot among the items, and each event more was derived
+abbrev pub with_document : Account → ℕ → ℕ → ℕ → ℕ → Data → Account
+with_document a had came linked untied d = record {
   written = up a.written 1;
   events = up a.events (event_count d);
+  links = up a.links linked;
   lots = up a.lots (had - quantities d);
   derived = up a.derived (event_count d - came);
   untied = up a.untied untied;

@@ -5,10 +5,12 @@ use Rattle.json.specs.Lex.{tokens}
 use Rattle.json.specs.Print.{print}
 use Rattle.serde_json.specs.Data.{Data, depth}
 use Rattle.serde_json.specs.Read.{max_depth, read}
-use Rattle.document_convert.specs.Accounts.{event_count, none_yet, quantities, untied_of, with_document}
+use Rattle.document_convert.specs.Accounts.{event_count, links_of, none_yet, quantities, untied_of, with_document}
+use Rattle.document_convert.specs.Linked.{document_with_links}
 use Rattle.document_convert.specs.Lotted.{document_with_lots}
 use Rattle.document_convert.specs.Texts.{Piece, pieces_of}
 use Rattle.document_convert.specs.declared.accounts.Account.{Account}
+use Rattle.document_convert.specs.declared.converting.Conversion.{Conversion}
 use Rattle.document_convert.specs.declared.converting.Converted.{Converted}
 use Rattle.document_convert.specs.declared.converting.Refused.{Refused}
 
@@ -36,28 +38,41 @@ abbrev pub refused_at : Piece → List Refused
 refused_at (Ok d) = []
 refused_at (Err refused) = refused ∷ []
 
--- a document as it is written, with its lots or without
-abbrev pub as_asked : Bool → Data → Data
-as_asked true d = document_with_lots d
-as_asked false d = d
+-- a document with its units as links, or as it is
+abbrev pub linked_if : Bool → Data → Data
+linked_if true d = document_with_links d
+linked_if false d = d
+
+-- a document with its lots, or as it is
+abbrev pub lotted_if : Bool → Data → Data
+lotted_if true d = document_with_lots d
+lotted_if false d = d
+
+-- a document as it is written: the links first, and then the lots
+abbrev pub as_asked : Conversion → Data → Data
+as_asked ways d = lotted_if ways.lots (linked_if ways.links d)
 
 -- the documents of a text, as they are written
-abbrev pub documents_of : Bool → List Piece → List Data
-documents_of lots pieces = map (as_asked lots) (flat_map document_at pieces)
+abbrev pub documents_of : Conversion → List Piece → List Data
+documents_of ways pieces = map (as_asked ways) (flat_map document_at pieces)
 
 abbrev pub refusals_of : List Piece → List Refused
 refusals_of pieces = flat_map refused_at pieces
 
-abbrev pub account_from : Bool → Account → List Data → Account
-account_from lots a [] = a
-account_from lots a (d ∷ ds) = account_from lots (with_document a (quantities d) (event_count d) (untied_of lots d) (as_asked lots d)) ds
+-- with a document more: the lots that weren't tied are those of its events with their units as links
+abbrev pub account_with : Conversion → Account → Data → Account
+account_with ways a d = with_document a (quantities d) (event_count d) (links_of ways.links d) (untied_of ways.lots (linked_if ways.links d)) (as_asked ways d)
+
+abbrev pub account_from : Conversion → Account → List Data → Account
+account_from ways a [] = a
+account_from ways a (d ∷ ds) = account_from ways (account_with ways a d) ds
 
 -- each document is written in order, and each refusal told
-pub record AreConverted (lots : Bool) (pieces : List Piece) (converted : Converted) : Type 0 where
-  pub written : AreLinesOf (documents_of lots pieces) (string_bytes converted.lines)
+pub record AreConverted (ways : Conversion) (pieces : List Piece) (converted : Converted) : Type 0 where
+  pub written : AreLinesOf (documents_of ways pieces) (string_bytes converted.lines)
   pub told : converted.refused.items ≡ refusals_of pieces
-  pub counted : converted.account ≡ account_from lots none_yet (flat_map document_at pieces)
+  pub counted : converted.account ≡ account_from ways none_yet (flat_map document_at pieces)
 
 -- those of a text
-abbrev pub IsConverted : Bool → List ℕ → Converted → Type 0
-IsConverted lots text converted = AreConverted lots (pieces_of text) converted
+abbrev pub IsConverted : Conversion → List ℕ → Converted → Type 0
+IsConverted ways text converted = AreConverted ways (pieces_of text) converted

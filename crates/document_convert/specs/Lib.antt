@@ -4,11 +4,15 @@ pub mod Laws
 pub mod Lots
 pub mod Quantities
 pub mod Respelled
+pub mod Links
+pub mod Speller
 pub mod UnitLots
 pub mod SeenLots
 pub mod LotEvents
 pub mod Lotted
 pub mod LotLaws
+pub mod Linked
+pub mod LinkLaws
 pub mod UnitLaws
 pub mod Texts
 pub mod Accounts

@@ -15,7 +15,7 @@ use Rattle.event_json.specs.Sites.{Site}
 use Rattle.event_json.specs.declared.documents.Doc.{Doc}
 use Rattle.document_convert.specs.Lots.{SpellsLot, lot_of, lot_text}
 use Rattle.document_convert.specs.Quantities.{and_texts, list_of, lot_in, lots_of, moved, with_its_lots}
-use Rattle.document_convert.specs.Respelled.{respelled_item, respelled_text, spells_otherwise, with_spelled_lots}
+use Rattle.document_convert.specs.Respelled.{Spelling, respelled_item, respelled_text, spelled_item, spells_otherwise, with_spelled}
 use Rattle.document_convert.specs.LotEvents.{has_unit_lots}
 use Rattle.document_convert.specs.Lotted.{converted_event, document_with_lots, events_with_lots, has_lots}
 
@@ -84,21 +84,26 @@ pub record TextsAreRespelled : Type 0 where
   pub others : (text : List ℕ) → ((gtin number : List ℕ) → SpellsLot text gtin number → ⊥) → respelled_item (string text) ≡ string text
 
 -- the text, or each item of the array, that is this member is respelled in its place, and no other member changes
-pub record IsRespelled (name : List ℕ) (d found : Data) : Type 0 where
-  pub list : (items : Items) → member_named name d ≡ Some (array items) → member_named name found ≡ Some (array (items_of (map respelled_item (in_order items))))
-  pub text : (text : List ℕ) → member_named name d ≡ Some (string text) → member_named name found ≡ Some (respelled_item (string text))
+pub record IsSpelled (f : Spelling) (name : List ℕ) (d found : Data) : Type 0 where
+  pub list : (items : Items) → member_named name d ≡ Some (array items) → member_named name found ≡ Some (array (items_of (map (spelled_item f) (in_order items))))
+  pub text : (text : List ℕ) → member_named name d ≡ Some (string text) → member_named name found ≡ Some (spelled_item f (string text))
   pub others : (other : List ℕ) → (other ≡ name → ⊥) → get other found ≡ get other d
 
 -- of one member after another
-abbrev pub AreRespelled : List ℕ → List ℕ → Data → Data → Type 0
-AreRespelled first second d found = (half : Data) × IsRespelled first d half × IsRespelled second half found
+abbrev pub AreSpelled : Spelling → List ℕ → List ℕ → Data → Data → Type 0
+AreSpelled f first second d found = (half : Data) × IsSpelled f first d half × IsSpelled f second half found
 
 -- Of an event of each type those of its lists of items, and of the parent, and nothing else.
-pub record EventsAreRespelled : Type 0 where
-  pub objects : (d : Data) → type_text d ≡ Some (codes "ObjectEvent") → IsRespelled (codes "epcList") d (with_spelled_lots d)
-  pub aggregations : (d : Data) → type_text d ≡ Some (codes "AggregationEvent") → AreRespelled (codes "parentID") (codes "childEPCs") d (with_spelled_lots d)
+pub record EventsAreSpelled (f : Spelling) : Type 0 where
+  pub objects : (d : Data) → type_text d ≡ Some (codes "ObjectEvent") → IsSpelled f (codes "epcList") d (with_spelled f d)
+  pub aggregations : (d : Data) → type_text d ≡ Some (codes "AggregationEvent") → AreSpelled f (codes "parentID") (codes "childEPCs") d (with_spelled f d)
   pub transformations : (d : Data) → type_text d ≡ Some (codes "TransformationEvent")
-      → AreRespelled (codes "inputEPCList") (codes "outputEPCList") d (with_spelled_lots d)
+      → AreSpelled f (codes "inputEPCList") (codes "outputEPCList") d (with_spelled f d)
+  pub others : (d : Data) → (type_text d ≡ Some (codes "ObjectEvent") → ⊥) → (type_text d ≡ Some (codes "AggregationEvent") → ⊥)
+      → (type_text d ≡ Some (codes "TransformationEvent") → ⊥) → with_spelled f d ≡ d
+
+abbrev pub EventsAreRespelled : Type 0
+EventsAreRespelled = EventsAreSpelled lot_of
 
 -- ---- nothing gets lost
 

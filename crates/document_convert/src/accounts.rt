@@ -4,12 +4,15 @@ ghost use Rattle.std.specs.Prelude.{◌≡◌, count_by, IfOk, length, option_ma
 ghost use Rattle.serde_json.specs.View.{items_view, view};
 ghost use Rattle.event_json.specs.Members.{member_named};
 ghost use Rattle.event_json.specs.Untraced.{in_order, listed_events};
-ghost use Rattle.document_convert.specs.Accounts.{elements_by, elements_in, elements_of, elements_from, event_count, none_yet, quantities, untied_of, with_document};
+ghost use Rattle.document_convert.specs.Accounts.{elements_by, elements_in, elements_of, elements_from, event_count, links_of, none_yet, quantities, untied_of, with_document};
+ghost use Rattle.document_convert.specs.Links.{link_of};
 ghost use Rattle.document_convert.specs.Quantities.{has_quantities};
+ghost use Rattle.document_convert.specs.Respelled.{spells_otherwise_by};
 ghost use Rattle.document_convert.specs.UnitLots.{is_untied};
 
 use crate::event_lists::events_of;
 use crate::quantities::has_quantities;
+use crate::respelling::{Speller, spells_otherwise_by};
 use crate::types::{member_named, type_text};
 use crate::unit_lots::is_untied;
 use serde_json::{Value, json};
@@ -22,6 +25,8 @@ pub struct Account {
     pub written: u64,
     /// Their events, derived ones too.
     pub events: u64,
+    /// The events with units that are links now.
+    pub links: u64,
     /// The elements of lists of quantities that are lots among the items now.
     pub lots: u64,
     /// The events that were added: each leads from a lot to its units.
@@ -41,6 +46,7 @@ impl Account {
         Account {
             written: 0,
             events: 0,
+            links: 0,
             lots: 0,
             derived: 0,
             untied: 0,
@@ -53,6 +59,7 @@ impl Account {
         Account {
             written: self.written.saturating_add(more.written),
             events: self.events.saturating_add(more.events),
+            links: self.links.saturating_add(more.links),
             lots: self.lots.saturating_add(more.lots),
             derived: self.derived.saturating_add(more.derived),
             untied: self.untied.saturating_add(more.untied),
@@ -60,7 +67,7 @@ impl Account {
         }
     }
 
-    /// The line that tells it, as `note: written 1 events 3 lots 2 derived 1 untied 0 left 0`, with its LF.
+    /// The line that tells it, as `note: written 1 events 3 links 0 lots 2 derived 1 untied 0 left 0`, with its LF.
     ///
     /// # Errors
     /// Where memory runs out.
@@ -68,13 +75,14 @@ impl Account {
         let Account {
             written,
             events,
+            links,
             lots,
             derived,
             untied,
             left,
         } = self;
         let mut text = format!(in alloc; "note: written {written} events {events}")?;
-        text.push_str(format!(in alloc; " lots {lots} derived {derived}")?.as_str())?;
+        text.push_str(format!(in alloc; " links {links} lots {lots} derived {derived}")?.as_str())?;
         text.push_str(format!(in alloc; " untied {untied} left {left}\n")?.as_str())?;
         Ok(text)
     }
@@ -85,20 +93,29 @@ impl Account {
     /// Where memory runs out.
     pub fn json(self, alloc: Global) -> Result<String, AllocError> {
         let account =
-            json!(in alloc; {"derived": self.derived, "events": self.events, "left": self.left, "lots": self.lots, "untied": self.untied, "written": self.written})?;
+            json!(in alloc; {"derived": self.derived, "events": self.events, "left": self.left, "links": self.links, "lots": self.lots, "untied": self.untied, "written": self.written})?;
         let mut line = json!(in alloc; {"account": account})?.to_string(alloc)?;
         line.push('\n')?;
         Ok(line)
     }
 
-    /// With a document more, that had so many quantities, events, and events with too many lots, as it was written.
-    pub(crate) fn with(self, had: u64, came: u64, untied: u64, document: &Value) -> Account
-        ensures { result ≡ with_document self had came untied (view document.now) }
+    /// With a document more, that had so many quantities, events, events with units that are links now, and events with
+    /// too many lots, as it was written.
+    pub(crate) fn with(
+        self,
+        had: u64,
+        came: u64,
+        linked: u64,
+        untied: u64,
+        document: &Value,
+    ) -> Account
+        ensures { result ≡ with_document self had came linked untied (view document.now) }
     {
         let now = event_count(document);
         Account {
             written: self.written.saturating_add(1),
             events: self.events.saturating_add(now),
+            links: self.links.saturating_add(linked),
             lots: self
                 .lots
                 .saturating_add(had.saturating_sub(quantities(document))),
@@ -114,6 +131,31 @@ pub(crate) fn event_count(document: &Value) -> u64
     ensures { result ≡ event_count (view document.now) }
 {
     count(events_of(document))
+}
+
+/// How many events of a document spell a unit otherwise than by its link, where that is asked for.
+pub(crate) fn links_of(alloc: Global, document: &Value, links: bool) -> Result<u64, AllocError>
+    ensures { IfOk result (λ count. count ≡ links_of links (view document.now)) }
+{
+    if links {
+        linked(alloc, events_of(document))
+    } else {
+        Ok(0)
+    }
+}
+
+/// How many of these events do.
+fn linked(alloc: Global, events: &[Value]) -> Result<u64, AllocError>
+    ensures { IfOk result (λ count. count
+        ≡ count_by (spells_otherwise_by link_of) (in_order (items_view events.now))) }
+{
+    let mut count: u64 = 0;
+    for event in events.iter() {
+        if spells_otherwise_by(alloc, Speller::Links, event)? {
+            count += 1;
+        }
+    }
+    Ok(count)
 }
 
 /// How many events of a document have more lots of units than are tied to these, where that is asked for.

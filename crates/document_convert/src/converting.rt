@@ -1,18 +1,28 @@
 //! A text as it is found, turned into lines of documents that are captured.
 
-ghost use Rattle.std.specs.Prelude.{◌≡◌, ◌≤◌, ℕ, Bool, List, [], ◌∷◌, ◌++◌, Some, Ok, Err, IfOk, OnOk, map, option_map, string_bytes};
+ghost use Rattle.std.specs.Prelude.{◌≡◌, ◌≤◌, ℕ, List, [], ◌∷◌, ◌++◌, Some, Ok, Err, IfOk, OnOk, map, option_map, string_bytes};
 ghost use Rattle.std.specs.List.{enumerate_from};
 ghost use Rattle.serde_json.specs.View.{view};
-ghost use Rattle.document_convert.specs.Converted.{AreConverted, IsConverted, IsLineOf, as_asked};
+ghost use Rattle.document_convert.specs.Converted.{AreConverted, IsConverted, IsLineOf, linked_if, lotted_if};
 ghost use Rattle.document_convert.specs.Texts.{Piece, begins, by_lines, first_number, line_pieces, lines_of, no_document, no_value, piece_of, pieces_at};
 
-use crate::accounts::{Account, event_count, quantities, untied_of};
+use crate::accounts::{Account, event_count, links_of, quantities, untied_of};
 use crate::documents::documents_in;
+use crate::linked::document_with_links;
 use crate::lotted::document_with_lots;
 use crate::texts::{is_blank, lines_of, unmarked, value_of};
 use event_json::{DocFault, DocFaultKind, DocField};
 use serde_json::Value;
 use std::alloc::{AllocError, Global};
+
+/// What is done with documents beside finding them.
+#[derive(Clone, Copy, Debug, PartialEq, Eq)]
+pub struct Conversion {
+    /// Lots stand among the items, as [`document_with_lots`](crate::document_with_lots) has it.
+    pub lots: bool,
+    /// Units are links, as [`document_with_links`](crate::document_with_links) has it.
+    pub links: bool,
+}
 
 /// What stands in a text in the place of a document, and is none.
 #[derive(Clone, Copy, Debug, PartialEq, Eq)]
@@ -34,7 +44,8 @@ pub struct Converted {
 }
 
 /// Turns a text as it is found into documents that are captured, one a line: each as
-/// [`document_in`](crate::document_in) finds it, and where it is asked for with its lots, as
+/// [`document_in`](crate::document_in) finds it, and where it is asked for with its units as links, as
+/// [`document_with_links`](crate::document_with_links) has it, and then with its lots, as
 /// [`document_with_lots`](crate::document_with_lots) has it.
 ///
 /// The text is one JSON value, or else has one in each line, where its first line that isn't blank is one; a byte order
@@ -46,31 +57,31 @@ pub struct Converted {
 ///
 /// # Errors
 /// Where memory runs out.
-pub fn convert(alloc: Global, text: &[u8], lots: bool) -> Result<Converted, AllocError>
+pub fn convert(alloc: Global, text: &[u8], ways: Conversion) -> Result<Converted, AllocError>
     // The lines are those of the documents of the text, one for each, in order, and nothing else: the text is one
     // value, or has one in each line that isn't blank, where the first of them is one. A line is JSON without a space,
     // and is read back as its document's value. What is no document is told, in order, by its line and its place in its
     // array.
-    // It is counted how many documents and events were written, how many quantities became lots, how many events were
-    // derived, and how many events still have quantities.
+    // It is counted how many documents and events were written, of how many events units became links, how many
+    // quantities became lots, how many events were derived, and how many events still have quantities.
     // Not covered: a document that nests more than 127 deep isn't read back; how the account is printed, and added up
     // over several texts.
-    ensures { IfOk result (IsConverted lots text.now) }
+    ensures { IfOk result (IsConverted ways text.now) }
 {
     let text = unmarked(text);
     match value_of(alloc, text)? {
         Some(value) => {
             let mut converted = Converted::new(alloc);
-            converted.push_value(alloc, 0, value, lots)?;
+            converted.push_value(alloc, 0, value, ways)?;
             Ok(converted)
         }
-        None => by_lines(alloc, text, lots),
+        None => by_lines(alloc, text, ways),
     }
 }
 
 /// What comes of a text that isn't one value.
-fn by_lines(alloc: Global, text: &[u8], lots: bool) -> Result<Converted, AllocError>
-    ensures { IfOk result (AreConverted lots (by_lines (lines_of text.now))) }
+fn by_lines(alloc: Global, text: &[u8], ways: Conversion) -> Result<Converted, AllocError>
+    ensures { IfOk result (AreConverted ways (by_lines (lines_of text.now))) }
 {
     let lines = lines_of(alloc, text)?;
     let lines = lines.as_slice();
@@ -80,7 +91,7 @@ fn by_lines(alloc: Global, text: &[u8], lots: bool) -> Result<Converted, AllocEr
         return Ok(converted);
     }
     for (place, line) in lines.iter().enumerate() {
-        converted.push_line(alloc, place as u64 + 1, line, lots)?;
+        converted.push_line(alloc, place as u64 + 1, line, ways)?;
     }
     Ok(converted)
 }
@@ -121,9 +132,20 @@ fn no_document(line: u64, number: u64) -> Refused
     Refused { line, fault }
 }
 
-/// A document as it is written, with its lots or without.
-fn as_asked(alloc: Global, document: Value, lots: bool) -> Result<Value, AllocError>
-    ensures { IfOk result (λ d. view d ≡ as_asked lots (view document)) }
+/// A document with its units as links, or as it is.
+fn linked_if(alloc: Global, document: Value, links: bool) -> Result<Value, AllocError>
+    ensures { IfOk result (λ d. view d ≡ linked_if links (view document)) }
+{
+    if links {
+        document_with_links(alloc, document)
+    } else {
+        Ok(document)
+    }
+}
+
+/// A document with its lots, or as it is.
+fn lotted_if(alloc: Global, document: Value, lots: bool) -> Result<Value, AllocError>
+    ensures { IfOk result (λ d. view d ≡ lotted_if lots (view document)) }
 {
     if lots {
         document_with_lots(alloc, document)
@@ -135,7 +157,7 @@ fn as_asked(alloc: Global, document: Value, lots: bool) -> Result<Value, AllocEr
 impl Converted {
     /// Nothing yet.
     fn new(alloc: Global) -> Converted
-        ensures { (lots : Bool) → AreConverted lots [] result }
+        ensures { (ways : Conversion) → AreConverted ways [] result }
     {
         Converted {
             lines: String::new(alloc),
@@ -150,16 +172,16 @@ impl Converted {
         alloc: Global,
         number: u64,
         line: &[u8],
-        lots: bool,
+        ways: Conversion,
     ) -> Result<(), AllocError>
-        ensures { OnOk result ((pieces : List Piece) → AreConverted lots pieces self.old
-            → AreConverted lots (pieces ++ line_pieces number line.now) self.new) }
+        ensures { OnOk result ((pieces : List Piece) → AreConverted ways pieces self.old
+            → AreConverted ways (pieces ++ line_pieces number line.now) self.new) }
     {
         if is_blank(line) {
             return Ok(());
         }
         match value_of(alloc, line)? {
-            Some(value) => self.push_value(alloc, number, value, lots),
+            Some(value) => self.push_value(alloc, number, value, ways),
             None => self.push_refused(no_value(number)),
         }
     }
@@ -170,14 +192,14 @@ impl Converted {
         alloc: Global,
         line: u64,
         value: Value,
-        lots: bool,
+        ways: Conversion,
     ) -> Result<(), AllocError>
-        ensures { OnOk result ((pieces : List Piece) → AreConverted lots pieces self.old
-            → AreConverted lots (pieces ++ pieces_at line (Some (view value))) self.new) }
+        ensures { OnOk result ((pieces : List Piece) → AreConverted ways pieces self.old
+            → AreConverted ways (pieces ++ pieces_at line (Some (view value))) self.new) }
     {
         let first = first_number(&value);
         let documents = documents_in(alloc, value)?;
-        self.push_all(alloc, line, first, documents, lots)
+        self.push_all(alloc, line, first, documents, ways)
     }
 
     /// Adds the documents of a value, of which the first has this number.
@@ -187,16 +209,16 @@ impl Converted {
         line: u64,
         first: u64,
         documents: Vec<Option<Value>>,
-        lots: bool,
+        ways: Conversion,
     ) -> Result<(), AllocError>
         requires { first ≤ 1 }
-        ensures { OnOk result ((pieces : List Piece) → AreConverted lots pieces self.old
-            → AreConverted lots (pieces ++ map (piece_of line) (enumerate_from first
+        ensures { OnOk result ((pieces : List Piece) → AreConverted ways pieces self.old
+            → AreConverted ways (pieces ++ map (piece_of line) (enumerate_from first
             (map (option_map view) documents.items))) self.new) }
     {
         let mut number = first;
         for document in documents {
-            self.push(alloc, line, number, document, lots)?;
+            self.push(alloc, line, number, document, ways)?;
             number += 1;
         }
         Ok(())
@@ -209,22 +231,23 @@ impl Converted {
         line: u64,
         number: u64,
         document: Option<Value>,
-        lots: bool,
+        ways: Conversion,
     ) -> Result<(), AllocError>
-        ensures { OnOk result ((pieces : List Piece) → AreConverted lots pieces self.old
-            → AreConverted lots (pieces ++ piece_of line (number, option_map view document) ∷ [])
+        ensures { OnOk result ((pieces : List Piece) → AreConverted ways pieces self.old
+            → AreConverted ways (pieces ++ piece_of line (number, option_map view document) ∷ [])
             self.new) }
     {
         match document {
-            Some(document) => self.push_document(alloc, document, lots),
+            Some(document) => self.push_document(alloc, document, ways),
             None => self.push_refused(no_document(line, number)),
         }
     }
 
     /// Adds what is no document.
     fn push_refused(&mut self, refused: Refused) -> Result<(), AllocError>
-        ensures { OnOk result ((lots : Bool) (pieces : List Piece) → AreConverted lots pieces self.old
-            → AreConverted lots (pieces ++ Err refused ∷ []) self.new) }
+        ensures { OnOk result ((ways : Conversion) (pieces : List Piece)
+            → AreConverted ways pieces self.old
+            → AreConverted ways (pieces ++ Err refused ∷ []) self.new) }
     {
         self.refused.push(refused)?;
         Ok(())
@@ -235,17 +258,19 @@ impl Converted {
         &mut self,
         alloc: Global,
         document: Value,
-        lots: bool,
+        ways: Conversion,
     ) -> Result<(), AllocError>
-        ensures { OnOk result ((pieces : List Piece) → AreConverted lots pieces self.old
-            → AreConverted lots (pieces ++ Ok (view document) ∷ []) self.new) }
+        ensures { OnOk result ((pieces : List Piece) → AreConverted ways pieces self.old
+            → AreConverted ways (pieces ++ Ok (view document) ∷ []) self.new) }
     {
         let had = quantities(&document);
         let came = event_count(&document);
-        let untied = untied_of(alloc, &document, lots)?;
-        let document = as_asked(alloc, document, lots)?;
-        push_text(alloc, &mut self.lines, &document)?;
-        self.account = self.account.with(had, came, untied, &document);
+        let links = links_of(alloc, &document, ways.links)?;
+        let linked = linked_if(alloc, document, ways.links)?;
+        let untied = untied_of(alloc, &linked, ways.lots)?;
+        let written = lotted_if(alloc, linked, ways.lots)?;
+        push_text(alloc, &mut self.lines, &written)?;
+        self.account = self.account.with(had, came, links, untied, &written);
         Ok(())
     }
 }

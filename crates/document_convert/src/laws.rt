@@ -1,5 +1,6 @@
 //! Laws of a value's document, each named by a function with an empty body whose contract is the law.
 
+ghost use Rattle.document_convert.specs.LinkLaws.{DocumentsAreLinked, EventsAreLinked, LinksAreUnits, TextsAreLinked, UnitsBecomeLinks, UnitsStayApart};
 ghost use Rattle.document_convert.specs.LotLaws.{EventsAreRespelled, LotsAreMoved, LotsAreNamed, LotsStayApart, NothingGetsLost, ReadStaysWithLots, SpelledAreLots, SpellingsBecomeOne, TextsAreRespelled, WithoutStays};
 ghost use Rattle.document_convert.specs.UnitLaws.{LotsAreMade, LotsAreNumbered, NothingIsInvented, UnitsAreLed, WithoutLotsAsBefore};
 ghost use Rattle.document_convert.specs.Laws.{EventsAreKept, HoldersAreDocuments, HoldersAreThese, MembersAreKept, ReadIsUnchanged, SecondChangesNothing, SurroundingsAreKept, TypesAreKept, TypesAreThese, TypesAreTold};
@@ -111,4 +112,20 @@ pub fn without_lots_as_before()
 /// The events of an event's lots have its identifier with their number behind it, where it has one.
 pub fn lots_are_numbered()
     ensures { LotsAreNumbered }
+{}
+
+/// A text that names a unit becomes the text that spells this very unit, so that two spellings of one become one, no
+/// other text does, and two units never become one.
+pub fn units_have_one_link()
+    ensures one { UnitsBecomeLinks }
+    ensures units { LinksAreUnits }
+    ensures apart { UnitsStayApart }
+{}
+
+/// A unit that an event names becomes its link, in its place, and all else stays: each event of a document is there, in
+/// order, and no other.
+pub fn units_are_linked()
+    ensures texts { TextsAreLinked }
+    ensures events { EventsAreLinked }
+    ensures documents { DocumentsAreLinked }
 {}

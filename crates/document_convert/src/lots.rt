@@ -69,7 +69,7 @@ pub(crate) fn lot_text(alloc: Global, gtin: &str, number: &[u8]) -> Result<Strin
 }
 
 /// What is behind the scheme of a link, `https` or `http`.
-fn behind_scheme(text: &str) -> Option<&str>
+pub(crate) fn behind_scheme(text: &str) -> Option<&str>
     ensures { option_map (λ t. t.now) result ≡ behind_scheme text.now }
 {
     match text.strip_prefix("https://") {
@@ -79,7 +79,7 @@ fn behind_scheme(text: &str) -> Option<&str>
 }
 
 /// What is before the first slash, and what is behind it.
-fn parted(text: &str) -> Option<(&str, &str)>
+pub(crate) fn parted(text: &str) -> Option<(&str, &str)>
     ensures { option_map (λ p. (p.0.now, p.1.now)) result ≡ parted 47 text.now }
 {
     text.split_once('/')
@@ -106,14 +106,14 @@ fn before_fragment(text: &str) -> &str
 }
 
 /// A text without a query and a fragment.
-fn before_query(text: &str) -> &str
+pub(crate) fn before_query(text: &str) -> &str
     ensures { result.now ≡ before_query text.now }
 {
     before_question(before_fragment(text))
 }
 
 /// What is behind the first of two fronts that a path has.
-fn behind_key<'p>(path: &'p str, number: &str, name: &str) -> Option<&'p str>
+pub(crate) fn behind_key<'p>(path: &'p str, number: &str, name: &str) -> Option<&'p str>
     ensures { option_map (λ t. t.now) result ≡ behind_key number.now name.now path.now }
 {
     match path.strip_prefix(number) {
@@ -123,7 +123,7 @@ fn behind_key<'p>(path: &'p str, number: &str, name: &str) -> Option<&'p str>
 }
 
 /// What is behind a consumer product variant, where there is one.
-fn past_variant(path: &str) -> &str
+pub(crate) fn past_variant(path: &str) -> &str
     ensures { result.now ≡ past_variant path.now }
 {
     match variant(path) {
@@ -171,7 +171,11 @@ fn zeros(count: usize) -> Option<&'static str>
 }
 
 /// The link of the unit that has the lot for its serial number.
-fn unit_of_parts(alloc: Global, gtin: &str, lot: &str) -> Result<Option<String>, AllocError>
+pub(crate) fn unit_of_parts(
+    alloc: Global,
+    gtin: &str,
+    lot: &str,
+) -> Result<Option<String>, AllocError>
     ensures { IfOk result
         (λ unit. option_map string_bytes unit ≡ unit_of_parts (gtin.now, lot.now)) }
 {

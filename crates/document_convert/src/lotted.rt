@@ -13,7 +13,7 @@ use crate::documents::document_around;
 use crate::event_lists::listed;
 use crate::lot_events::{has_unit_lots, push_lot_events, with_made};
 use crate::quantities::{has_quantities, with_its_lots};
-use crate::respelling::{spells_otherwise, with_spelled_lots};
+use crate::respelling::{Speller, spells_otherwise_by, with_spelled};
 use crate::types::type_text;
 use crate::unit_lots::{UnitLot, unit_lots};
 use serde_json::{Value, json};
@@ -24,14 +24,14 @@ fn lotted(alloc: Global, event: Value) -> Result<Value, AllocError>
     ensures { IfOk result (λ found. view found ≡ lotted (view event)) }
 {
     let event = with_its_lots(alloc, event)?;
-    with_spelled_lots(alloc, event)
+    with_spelled(alloc, Speller::Lots, event)
 }
 
 /// Whether an event has quantities, spells a lot otherwise, or tells the lot of units.
 fn has_lots(alloc: Global, event: &Value) -> Result<bool, AllocError>
     ensures { IfOk result (λ has. has ≡ has_lots (view event.now)) }
 {
-    if has_quantities(event) || spells_otherwise(alloc, event)? {
+    if has_quantities(event) || spells_otherwise_by(alloc, Speller::Lots, event)? {
         return Ok(true);
     }
     has_unit_lots(alloc, event)
@@ -97,7 +97,7 @@ fn bare_with_lots(alloc: Global, event: Value) -> Result<Value, AllocError>
 }
 
 /// Whether a value is an EPCISDocument by its member `type`.
-fn is_document(value: &Value) -> bool
+pub(crate) fn is_document(value: &Value) -> bool
     ensures { result ≡ is_text (λ text. bytes_eq text (codes "EPCISDocument"))
         (type_text (view value.now)) }
 {

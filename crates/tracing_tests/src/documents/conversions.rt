@@ -1,6 +1,6 @@
 //! Documents as they are found, and those that are captured of them, by rows.
 
-use document_convert::{convert, document_with_lots, documents_in, lot_of};
+use document_convert::{Conversion, convert, document_with_lots, documents_in, link_of, lot_of};
 use serde_json::Value;
 use std::alloc::Global;
 use std::test::*;
@@ -111,6 +111,52 @@ fn has_lot(alloc: Global, text: &str, want: &str) -> Result<bool, Fail> {
         Some(lot) => Ok(lot.as_str() == want),
         None => Ok(want == "-"),
     }
+}
+
+/// Whether the one link of the unit that a text names is this; `-` where it names none.
+fn is_linked(alloc: Global, text: &str, want: &str) -> Result<bool, Fail> {
+    match link_of(alloc, text)? {
+        Some(link) => Ok(link.as_str() == want),
+        None => Ok(want == "-"),
+    }
+}
+
+#[test]
+fn links(rt: HostRuntime) -> Result<(), Fail> {
+    let unit = "https://id.gs1.org/01/04012345123456/21/7";
+    let pallet = "https://id.gs1.org/00/106141412345678908";
+    let rows = [
+        (unit, unit),
+        ("http://example.com/01/4012345123456/21/7?21=8#9", unit),
+        ("https://a.b/gtin/04012345123456/cpv/2A/lot/L/ser/7", unit),
+        ("https://a.b/01/04012345123456/10/L/21/7", unit),
+        ("(01)04012345123456(10)L(21)7", unit),
+        ("(21)7(01)04012345123456", unit),
+        ("https://a.b/00/106141412345678908", pallet),
+        ("https://a.b/sscc/106141412345678908?x", pallet),
+        ("(00)106141412345678908", pallet),
+        (
+            "https://a.b/01/96385074/21/A%2fB",
+            "https://id.gs1.org/01/00000096385074/21/A%2FB",
+        ),
+        ("https://a.b/01/04012345123457/21/7", "-"),
+        ("https://a.b/01/04012345123456/21/7/235/x", "-"),
+        ("https://a.b/x/01/04012345123456/21/7", "-"),
+        ("https://a.b/01/04012345123456/10/L/22/2A/21/7", "-"),
+        ("https://a.b/01/04012345123456?21=7", "-"),
+        ("https://a.b/01/4012345123456789/21/7", "-"),
+        ("https://a.b/01/04012345123456/21/", "-"),
+        ("https://a.b/00/106141412345678909", "-"),
+        ("ftp://a.b/01/04012345123456/21/7", "-"),
+        ("0104012345123456217", "-"),
+        ("(01)04012345123457(21)7", "-"),
+        ("(01)04012345123456(10)L", "-"),
+        ("urn:epc:id:sgtin:4012345.012345.7", "-"),
+    ];
+    for (text, want) in &rows {
+        assert!(rt; is_linked(rt.alloc(), text, want)?);
+    }
+    Ok(())
 }
 
 #[test]
@@ -240,7 +286,8 @@ fn units(rt: HostRuntime) -> Result<(), Fail> {
 
 /// The lines that a text is turned into, and then what is none of it: its line, its number and its fault.
 fn written(alloc: Global, text: &str, lots: bool) -> Result<String, Fail> {
-    let converted = convert(alloc, text.as_bytes(), lots)?;
+    let ways = Conversion { lots, links: false };
+    let converted = convert(alloc, text.as_bytes(), ways)?;
     let mut out = String::new(alloc);
     out.push_str(converted.lines.as_str())?;
     for refused in &converted.refused {
@@ -257,23 +304,23 @@ fn texts(rt: HostRuntime) -> Result<(), Fail> {
     let rows = [
         (
             "\u{feff} {\"type\":\"ObjectEvent\"}\n",
-            "{\"type\":\"ObjectEvent\"}\nnote: written 1 events 1 lots 0 derived 0 untied 0 left 0\n",
+            "{\"type\":\"ObjectEvent\"}\nnote: written 1 events 1 links 0 lots 0 derived 0 untied 0 left 0\n",
         ),
         (
             "\n{\"isA\":\"ObjectEvent\"}\r\n \n{\n[7,{\"type\":\"TransactionEvent\"}]",
-            "{\"isA\":\"ObjectEvent\",\"type\":\"ObjectEvent\"}\n{\"type\":\"TransactionEvent\"}\n4 0 Syntax\n5 1 NotDocument\nnote: written 2 events 2 lots 0 derived 0 untied 0 left 0\n",
+            "{\"isA\":\"ObjectEvent\",\"type\":\"ObjectEvent\"}\n{\"type\":\"TransactionEvent\"}\n4 0 Syntax\n5 1 NotDocument\nnote: written 2 events 2 links 0 lots 0 derived 0 untied 0 left 0\n",
         ),
         (
             "",
-            "0 0 Syntax\nnote: written 0 events 0 lots 0 derived 0 untied 0 left 0\n",
+            "0 0 Syntax\nnote: written 0 events 0 links 0 lots 0 derived 0 untied 0 left 0\n",
         ),
         (
             "x\n{\"type\":\"ObjectEvent\"}",
-            "0 0 Syntax\nnote: written 0 events 0 lots 0 derived 0 untied 0 left 0\n",
+            "0 0 Syntax\nnote: written 0 events 0 links 0 lots 0 derived 0 untied 0 left 0\n",
         ),
         (
             "{}",
-            "0 0 NotDocument\nnote: written 0 events 0 lots 0 derived 0 untied 0 left 0\n",
+            "0 0 NotDocument\nnote: written 0 events 0 links 0 lots 0 derived 0 untied 0 left 0\n",
         ),
     ];
     for (text, want) in &rows {
@@ -290,7 +337,7 @@ fn texts_with_lots(rt: HostRuntime) -> Result<(), Fail> {
         "{\"type\":\"ObjectEvent\",\"quantityList\":[{\"epcClass\":\"urn:epc:idpat:sgtin:9521321.000017.*\"}]}";
     let given = format!(in rt.alloc(); "{text}\n{bare}")?;
     let want =
-        "{\"epcList\":[\"https://id.gs1.org/01/09521321000179/10/Y-1\"],\"type\":\"ObjectEvent\"}\n{\"quantityList\":[{\"epcClass\":\"urn:epc:idpat:sgtin:9521321.000017.*\"}],\"type\":\"ObjectEvent\"}\nnote: written 2 events 2 lots 1 derived 0 untied 0 left 1\n";
+        "{\"epcList\":[\"https://id.gs1.org/01/09521321000179/10/Y-1\"],\"type\":\"ObjectEvent\"}\n{\"quantityList\":[{\"epcClass\":\"urn:epc:idpat:sgtin:9521321.000017.*\"}],\"type\":\"ObjectEvent\"}\nnote: written 2 events 2 links 0 lots 1 derived 0 untied 0 left 1\n";
     assert!(rt; written(rt.alloc(), given.as_str(), true)?.as_str() == want);
     Ok(())
 }

@@ -11,6 +11,7 @@ returns c =
     record {
       files = paths ∙ ap (λ xs. Some (map (λ p. p.now) xs)) (sym copy);
       lots = c.is_set-lots.ensures;
+      links = c.is_set-links.ensures;
       most = c.in_ok-most.ensures;
       form = c.requires;
     }

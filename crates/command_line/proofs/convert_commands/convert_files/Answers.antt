@@ -10,7 +10,7 @@ returns-in-Ok g c = record {
   ends = inl (
     c.in-Ok.total.refused,
     subst (λ (ps : List (Bor (List ℕ))). Led g.F.Files.does c.limit_all_to.new.self c.convert_all.new.files
-        (Converts g.W.Write.contents c.args.asked.now.lots (map (λ p. p.now) ps) c.args.output.now c.convert_all.new.output c.in-Ok.total.refused))
+        (Converts g.W.Write.contents c.args.asked.now.ways (map (λ p. p.now) ps) c.args.output.now c.convert_all.new.output c.in-Ok.total.refused))
         c.as_slice-paths.ensures.value c.in-Ok.ensures.all,
     c.status_of.ensures,
   );
@@ -23,7 +23,7 @@ returns-in-Err g c = record {
   ends = inr (
     c.in-Err.cause,
     subst (λ (ps : List (Bor (List ℕ))). Led g.F.Files.does c.limit_all_to.new.self c.convert_all.new.files
-        (ConvertFails g.W.Write.contents c.args.asked.now.lots (map (λ p. p.now) ps) c.args.output.now c.convert_all.new.output c.in-Err.cause))
+        (ConvertFails g.W.Write.contents c.args.asked.now.ways (map (λ p. p.now) ps) c.args.output.now c.convert_all.new.output c.in-Err.cause))
         c.as_slice-paths.ensures.value c.in-Err.ensures.failed,
     c.fault.ensures,
   );

@@ -10,4 +10,5 @@ returns c =
     let paths = adds_rule _ _ _ _ _ c.in_ok-arg.ensures c.files.ensures.local named c.files.ensures.rule in
     let json = adds_rule _ _ _ _ _ c.in_ok-arg-2.ensures c.json.ensures.local paths c.json.ensures.rule in
     let lots = adds_rule _ _ _ _ _ c.in_ok-arg-3.ensures c.flag.ensures.local json c.flag.ensures.rule in
-    IfOk-weaker c.arg-4.result _ _ (λ command adds. adds_rule _ _ command _ _ adds c.max_bytes.ensures.local lots c.max_bytes.ensures.rule) c.arg-4.ensures
+    let links = adds_rule _ _ _ _ _ c.in_ok-arg-4.ensures c.flag-2.ensures.local lots c.flag-2.ensures.rule in
+    IfOk-weaker c.arg-5.result _ _ (λ command adds. adds_rule _ _ command _ _ adds c.max_bytes.ensures.local links c.max_bytes.ensures.rule) c.arg-5.ensures

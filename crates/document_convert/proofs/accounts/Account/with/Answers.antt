@@ -9,8 +9,9 @@ returns c =
     λ i. record {
       written = c.saturating_add.ensures i;
       events = (c.saturating_add-2.ensures ∙ ap (up c.args.self.events) now) i;
-      lots = (c.saturating_add-3.ensures ∙ ap (up c.args.self.lots) (c.saturating_sub.ensures ∙ ap (λ n. c.args.had - n) c.quantities.ensures)) i;
-      derived = (c.saturating_add-4.ensures ∙ ap (up c.args.self.derived) (c.saturating_sub-2.ensures ∙ ap (λ n. n - c.args.came) now)) i;
-      untied = c.saturating_add-5.ensures i;
-      left = (c.saturating_add-6.ensures ∙ ap (up c.args.self.left) (c.left.ensures ∙ ap (count_by has_quantities) c.events_of.ensures)) i;
+      links = c.saturating_add-3.ensures i;
+      lots = (c.saturating_add-4.ensures ∙ ap (up c.args.self.lots) (c.saturating_sub.ensures ∙ ap (λ n. c.args.had - n) c.quantities.ensures)) i;
+      derived = (c.saturating_add-5.ensures ∙ ap (up c.args.self.derived) (c.saturating_sub-2.ensures ∙ ap (λ n. n - c.args.came) now)) i;
+      untied = c.saturating_add-6.ensures i;
+      left = (c.saturating_add-7.ensures ∙ ap (up c.args.self.left) (c.left.ensures ∙ ap (count_by has_quantities) c.events_of.ensures)) i;
     }
