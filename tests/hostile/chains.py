@@ -5,6 +5,7 @@ A new command, or a new option, is one line in `commands`: every campaign tries 
 `recall --help` have no line. RECALL names the program, SECONDS_EACH how long one run of it may take.
 """
 import collections
+import contextlib
 import hashlib
 import os
 import pathlib
@@ -33,11 +34,13 @@ T = '"eventTime":"2024-05-01T08:00:00Z","eventTimeZoneOffset":"+00:00"'
 
 
 def program(*words, stdin=b"", env=None, before=(), cwd=None, seconds=SECONDS):
-    """Runs the program: status (below 0 a signal's, or "hangs"), output, errors."""
-    try:
-        ran = subprocess.run([*before, RECALL, *map(str, words)], input=stdin, capture_output=True, timeout=seconds, env=env, cwd=cwd)
-    except subprocess.TimeoutExpired as late:
-        return "hangs", late.stdout or b"", late.stderr or b""
+    """Runs the program: status (below 0 a signal's, or "hangs"), output, errors. Its standard input is a pipe with these bytes, or a file."""
+    with open(stdin, "rb") if isinstance(stdin, pathlib.PurePath) else contextlib.nullcontext() as file:
+        given = {"stdin": file} if file else {"input": stdin}
+        try:
+            ran = subprocess.run([*before, RECALL, *map(str, words)], **given, capture_output=True, timeout=seconds, env=env, cwd=cwd)
+        except subprocess.TimeoutExpired as late:
+            return "hangs", late.stdout or b"", late.stderr or b""
     return ran.returncode, ran.stdout, ran.stderr
 
 

@@ -92,6 +92,9 @@ def readers(tally, setting, work, tools):
     """The standard input fails at its k-th read, for each k."""
     script = (CHAIN / "recall.script").read_bytes()
     whole_answer = program("sim", stdin=script)
+    # A read of a pipe may give less than it was asked for, and then the k-th comes elsewhere; one of a file doesn't.
+    file = work / "script"
+    file.write_bytes(script)
     cases = [(chunk, k, errno) for chunk in (1, 7, 64, 4096) for k in range(1, len(script) // chunk + 3, 13 if chunk == 1 else 1) for errno in (5, 12, 4)]
     wanted_of = {}
     for chunk, k, errno in setting.some(cases):
@@ -100,7 +103,7 @@ def readers(tally, setting, work, tools):
         if whole not in wanted_of:
             wanted_of[whole] = program("sim", stdin=whole)[1]
         wanted = wanted_of[whole]
-        got = shimmed(["sim"], script, FD=0, KIND="r", AT=k, CHUNK=chunk, ERRNO=errno)
+        got = shimmed(["sim"], file, FD=0, KIND="r", AT=k, CHUNK=chunk, ERRNO=errno)
         fault = got[2].split(b"\n")[0]
         right = got[0] == 3 and got[1] == wanted and (fault == b"fault Read" or errno == 12 and fault == b"fault NoMemory") or (errno == 4 or chunk * (k - 1) > len(script)) and got == whole_answer
         tally.tell(f"sim read {k} of {chunk} bytes, errno {errno}", f"status {got[0]} {fault.decode()}", None if right else f"{got[1][-80:]!r} wanted {wanted[-80:]!r} {got[2]!r}")
