@@ -31,8 +31,8 @@ pub struct Account {
     pub lots: u64,
     /// The events that were added: each leads from a lot to its units.
     pub derived: u64,
-    /// The events with more lots of units than were tied to these: over 10 lot numbers, or over 1,000 units, each counted
-    /// once for each lot.
+    /// The events with more lots of units than were tied to these: over 10 lot numbers, or over 1,000 units, each
+    /// counted once for each lot.
     pub untied: u64,
     /// The events that still have quantities, with which a capture refuses them.
     pub left: u64,

@@ -63,7 +63,8 @@ pub fn convert(alloc: Global, text: &[u8], ways: Conversion) -> Result<Converted
     // and is read back as its document's value. What is no document is told, in order, by its line and its place in its
     // array.
     // It is counted how many documents and events were written, of how many events units became links, how many
-    // quantities became lots, how many events were derived, and how many events still have quantities.
+    // quantities became lots, how many events were derived, how many have too many lots for that, and how many still
+    // have quantities.
     // Not covered: a document that nests more than 127 deep isn't read back; how the account is printed, and added up
     // over several texts.
     ensures { IfOk result (IsConverted ways text.now) }

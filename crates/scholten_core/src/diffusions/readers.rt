@@ -93,7 +93,8 @@ impl Diffusion {
         tables::get(&self.own, number)
     }
 
-    /// The number that the next message gets, or [`LAST_NUMBER`](frame_core::LAST_NUMBER) + 1 where the numbers are spent.
+    /// The number that the next message gets, or [`LAST_NUMBER`](frame_core::LAST_NUMBER) + 1 where the numbers are
+    /// spent.
     pub fn next_message(&self) -> u64
         ensures next { result ≡ self.now.next_message }
         ensures in_range { IsNextNumber result }
@@ -101,7 +102,8 @@ impl Diffusion {
         self.outbox.next_number()
     }
 
-    /// The number that the next recall gets, or [`LAST_NUMBER`](frame_core::LAST_NUMBER) + 1 where the numbers are spent.
+    /// The number that the next recall gets, or [`LAST_NUMBER`](frame_core::LAST_NUMBER) + 1 where the numbers are
+    /// spent.
     pub fn next_recall(&self) -> u64
         ensures next { result ≡ self.now.next_recall }
         ensures in_range { IsNextNumber result }
