@@ -1,4 +1,6 @@
 pub mod Cutting
+pub mod Lengths
+pub mod LotKeys
 pub mod Naming
 pub mod Steps
 pub mod Words

@@ -1,21 +1,22 @@
 -- Which item elements name, by the elements that there are.
-use Rattle.std.proofs.Common.{◌≡◌, ◌↔◌, ◌⊎◌, inl, inr, ℕ, zero, suc, ◌<◌, Bool, true, false, not, ◌||◌, ◌&&◌, cond, List, [], ◌∷◌, codes, length, Option, Some, None, Result, Ok, Err, refl, sym, ap, ◌∙◌, subst, arith}
+use Rattle.std.proofs.Common.{◌≡◌, ◌⊎◌, inl, inr, ℕ, zero, suc, Bool, true, false, not, ◌||◌, cond, List, [], ◌∷◌, codes, Option, Some, None, Result, Ok, Err, refl, sym, ap, ◌∙◌, subst, arith}
 use Rattle.std.specs.Prelude.{bytes_eq}
 use Rattle.std.specs.List.{Contains}
 use Rattle.std.proofs.lemmas.Bool.{true≢false, and_parts, and_from, cond-true}
 use Rattle.std.proofs.lemmas.Option.{same_Some, none-some}
 use Rattle.std.proofs.lemmas.Slice.Eq.{bytes_eq-Decides}
-use Rattle.epc_core.specs.Items.{sgtin_key, sscc_key}
+use Rattle.epc_core.specs.Items.{sgtin_key, sscc_key, uri_key}
 use Rattle.epc_core.specs.Numbers.{is_checked}
 use Rattle.epc_core.specs.Serials.{is_serial}
 use Rattle.epc_core.proofs.Spelled.{checked_from, checked_to, serial_from, serial_to}
 use Rattle.item_spellings.specs.Elements.{Element}
-use Rattle.item_spellings.specs.Laws.{IsValue, Lacks, Agrees, NamesSgtin, NamesSscc, ElementsNameItems, ScansSpellItems, OtherTextsAreRefused}
+use Rattle.item_spellings.specs.Laws.{IsValue, Lacks, Agrees, Names, NamesLot, NamesSgtin, NamesSscc, ElementsNameItems, ScansSpellItems, OtherTextsAreRefused}
+use Rattle.item_spellings.specs.Lots.{lot_text}
 use Rattle.item_spellings.specs.Reading.{elements_of}
 use Rattle.item_spellings.specs.Writing.{IsWriting}
-use Rattle.item_spellings.specs.Scans.{look, all_have, only, sscc_item, sgtin_item, item_named, found_item, item_of, scan_reading}
+use Rattle.item_spellings.specs.Scans.{look, all_have, only, lot_item, lot_named, sscc_item, sgtin_item, item_named, found_item, item_of, scan_reading}
 use Rattle.item_spellings.specs.declared.faults.ScanFault.{ScanFault}
-use Rattle.item_spellings.specs.declared.faults.ScanFault.TheVariants.{NoElements, Differing, CheckDigit, BadSerial}
+use Rattle.item_spellings.specs.declared.faults.ScanFault.TheVariants.{NoElements, Differing, CheckDigit, BadSerial, BadLot}
 use Rattle.item_spellings.proofs.Written.{reads_what_is_written}
 
 -- ---- lists
@@ -143,10 +144,15 @@ sscc_named es key n =
     rw (only_to (codes "00") (Some n.sscc) es n.sscc_is, only_to (codes "01") gtin es found_gtin, only_to (codes "21") serial es found_serial)
     (by gtin serial found_gtin found_serial ∙ (cond-true _ _ _ (checked_to 18 n.sscc n.checked) ∙ ap Ok (sym n.names)))
   where
-    by : (gtin serial : Option (List ℕ)) → IsFound (codes "01") gtin es → IsFound (codes "21") serial es → item_named (Some n.sscc) gtin serial ≡ sscc_item n.sscc
+    by : (gtin serial : Option (List ℕ)) → IsFound (codes "01") gtin es → IsFound (codes "21") serial es → item_named es (Some n.sscc) gtin serial ≡ sscc_item n.sscc
     by None serial f g = refl
     by (Some gtin) None f g = refl
     by (Some gtin) (Some serial) f g = absurd (elim n.no_other [ inl lacks ↦ lacks gtin f.there | inr lacks ↦ lacks serial g.there ])
+
+lot_names : (es : List Element) (key : List ℕ) → NamesLot es key → item_of es ≡ Ok key
+lot_names es key n =
+    rw (only_to (codes "00") None es n.no_sscc, only_to (codes "01") (Some n.gtin) es n.gtin_is, only_to (codes "21") None es n.no_serial, only_to (codes "10") (Some n.lot) es n.lot_is)
+    (rw (checked_to 14 n.gtin n.checked, serial_to n.lot n.allowed) (ap Ok (sym n.names)))
 
 sscc_of : (sscc key : List ℕ) → sscc_item sscc ≡ Ok key → (is_checked 18 sscc ≡ true) × (key ≡ sscc_key sscc)
 sscc_of sscc key h = by (is_checked 18 sscc) h
@@ -163,34 +169,50 @@ sgtin_of gtin serial key h = by (is_checked 14 gtin) (is_serial serial) h
     by true false e = absurd (let no : ⊥ = cc in no)
     by false u e = absurd (let no : ⊥ = cc in no)
 
+lot_of : (gtin lot key : List ℕ) → lot_item gtin lot ≡ Ok key → (is_checked 14 gtin ≡ true) × (is_serial lot ≡ true) × (key ≡ uri_key (lot_text gtin lot))
+lot_of gtin lot key h = by (is_checked 14 gtin) (is_serial lot) h
+  where
+    by : (t u : Bool) → cond t (cond u (Ok (uri_key (lot_text gtin lot))) (Err BadLot)) (Err CheckDigit) ≡ Ok key → (t ≡ true) × (u ≡ true) × (key ≡ uri_key (lot_text gtin lot))
+    by true true e = (refl, refl, sym (same_Ok _ _ e))
+    by true false e = absurd (let no : ⊥ = cc in no)
+    by false u e = absurd (let no : ⊥ = cc in no)
+
+lot_found : (es : List Element) (gtin key : List ℕ) → IsFound (codes "00") None es → IsFound (codes "01") (Some gtin) es → IsFound (codes "21") None es → (r : Result (Option (List ℕ)) ScanFault) → only (codes "10") es ≡ r
+    → lot_named gtin r ≡ Ok key → Names es key
+lot_found es gtin key f g k (Err fault) e h = absurd (let no : ⊥ = cc in no)
+lot_found es gtin key f g k (Ok None) e h = absurd (let no : ⊥ = cc in no)
+lot_found es gtin key f g k (Ok (Some lot)) e h =
+    let is = lot_of gtin lot key h in
+    inr (inr (record { gtin = gtin; lot = lot; gtin_is = g; lot_is = only_from (codes "10") (Some lot) es e; no_sscc = f; no_serial = k; checked = checked_from 14 gtin is.0; allowed = serial_from lot is.1; names = is.2 }))
+
 named_by : (es : List Element) (key : List ℕ) (sscc gtin serial : Option (List ℕ)) → IsFound (codes "00") sscc es → IsFound (codes "01") gtin es → IsFound (codes "21") serial es
-    → item_named sscc gtin serial ≡ Ok key → NamesSgtin es key ⊎ NamesSscc es key
+    → item_named es sscc gtin serial ≡ Ok key → Names es key
 named_by es key (Some sscc) (Some gtin) (Some serial) f g k h = absurd (let no : ⊥ = cc in no)
 named_by es key (Some sscc) None serial f g k h =
     let is = sscc_of sscc key h in
-    inr (record { sscc = sscc; sscc_is = f; gtin_agrees = found_agrees (codes "01") None es g; serial_agrees = found_agrees (codes "21") serial es k; no_other = inl g; checked = checked_from 18 sscc is.0; names = is.1 })
+    inr (inl (record { sscc = sscc; sscc_is = f; gtin_agrees = found_agrees (codes "01") None es g; serial_agrees = found_agrees (codes "21") serial es k; no_other = inl g; checked = checked_from 18 sscc is.0; names = is.1 }))
 named_by es key (Some sscc) (Some gtin) None f g k h =
     let is = sscc_of sscc key h in
-    inr (record { sscc = sscc; sscc_is = f; gtin_agrees = found_agrees (codes "01") (Some gtin) es g; serial_agrees = found_agrees (codes "21") None es k; no_other = inr k; checked = checked_from 18 sscc is.0; names = is.1 })
+    inr (inl (record { sscc = sscc; sscc_is = f; gtin_agrees = found_agrees (codes "01") (Some gtin) es g; serial_agrees = found_agrees (codes "21") None es k; no_other = inr k; checked = checked_from 18 sscc is.0; names = is.1 }))
 named_by es key None (Some gtin) (Some serial) f g k h =
     let is = sgtin_of gtin serial key h in
     inl (record { gtin = gtin; serial = serial; gtin_is = g; serial_is = k; no_sscc = f; checked = checked_from 14 gtin is.0; allowed = serial_from serial is.1; names = is.2 })
-named_by es key None (Some gtin) None f g k h = absurd (let no : ⊥ = cc in no)
+named_by es key None (Some gtin) None f g k h = lot_found es gtin key f g k (only (codes "10") es) refl h
 named_by es key None None serial f g k h = absurd (let no : ⊥ = cc in no)
 
-item_is_named : (es : List Element) (key : List ℕ) → item_of es ≡ Ok key → NamesSgtin es key ⊎ NamesSscc es key
+item_is_named : (es : List Element) (key : List ℕ) → item_of es ≡ Ok key → Names es key
 item_is_named es key h =
     by (only (codes "00") es) (only (codes "01") es) (only (codes "21") es) refl refl refl h
   where
-    by : (a b c : Result (Option (List ℕ)) ScanFault) → only (codes "00") es ≡ a → only (codes "01") es ≡ b → only (codes "21") es ≡ c → found_item a b c ≡ Ok key
-        → NamesSgtin es key ⊎ NamesSscc es key
+    by : (a b c : Result (Option (List ℕ)) ScanFault) → only (codes "00") es ≡ a → only (codes "01") es ≡ b → only (codes "21") es ≡ c → found_item es a b c ≡ Ok key
+        → Names es key
     by (Err fault) b c x y z h = absurd (let no : ⊥ = cc in no)
     by (Ok sscc) (Err fault) c x y z h = absurd (let no : ⊥ = cc in no)
     by (Ok sscc) (Ok gtin) (Err fault) x y z h = absurd (let no : ⊥ = cc in no)
     by (Ok sscc) (Ok gtin) (Ok serial) x y z h = named_by es key sscc gtin serial (only_from (codes "00") sscc es x) (only_from (codes "01") gtin es y) (only_from (codes "21") serial es z) h
 
 pub elements_name_items : ElementsNameItems
-elements_name_items es key = (item_is_named es key, λ how. elim how [ inl n ↦ sgtin_named es key n | inr n ↦ sscc_named es key n ])
+elements_name_items es key = (item_is_named es key, λ how. elim how [ inl n ↦ sgtin_named es key n | inr m ↦ elim m [ inl n ↦ sscc_named es key n | inr n ↦ lot_names es key n ] ])
 
 -- ---- a whole text
 
@@ -198,7 +220,7 @@ pub scans_spell_items : ScansSpellItems
 unfolding scan_reading
 scans_spell_items text key = (by (elements_of text) refl, λ (es, written, named). let e = (reads_what_is_written es text).1 written in rw e ((elements_name_items es key).1 named))
   where
-    by : (o : Option (List Element)) → elements_of text ≡ o → scan_reading text ≡ Ok key → (es : List Element) × IsWriting es text × (NamesSgtin es key ⊎ NamesSscc es key)
+    by : (o : Option (List Element)) → elements_of text ≡ o → scan_reading text ≡ Ok key → (es : List Element) × IsWriting es text × (Names es key)
     by None e h = absurd (let whole : scan_reading text ≡ Err NoElements = rw e refl in let no : ⊥ = cc in no)
     by (Some es) e h = let whole : scan_reading text ≡ item_of es = rw e refl in (es, (reads_what_is_written es text).0 e, (elements_name_items es key).0 (sym whole ∙ h))
 
@@ -229,26 +251,39 @@ sgtin_has gtin serial h = by (is_checked 14 gtin) (is_serial serial) h
     by true false e = cc
     by false u e = cc
 
-named_has : (sscc gtin serial : Option (List ℕ)) → item_named sscc gtin serial ≡ Err NoElements → ⊥
-named_has (Some sscc) (Some gtin) (Some serial) h = cc
-named_has (Some sscc) None serial h = sscc_has sscc h
-named_has (Some sscc) (Some gtin) None h = sscc_has sscc h
-named_has None (Some gtin) (Some serial) h = sgtin_has gtin serial h
-named_has None (Some gtin) None h = cc
-named_has None None serial h = cc
-
 differs_not : (fault : ScanFault) → fault ≡ Differing → ◌≡◌ {A = Result (List ℕ) ScanFault} (Err fault) (Err NoElements) → ⊥
 differs_not fault is h = cc
+
+lot_has : (gtin lot : List ℕ) → lot_item gtin lot ≡ Err NoElements → ⊥
+lot_has gtin lot h = by (is_checked 14 gtin) (is_serial lot) h
+  where
+    by : (t u : Bool) → cond t (cond u (Ok (uri_key (lot_text gtin lot))) (Err BadLot)) (Err CheckDigit) ≡ Err NoElements → ⊥
+    by true true e = cc
+    by true false e = cc
+    by false u e = cc
+
+lot_named_has : (es : List Element) (gtin : List ℕ) (r : Result (Option (List ℕ)) ScanFault) → only (codes "10") es ≡ r → lot_named gtin r ≡ Err NoElements → ⊥
+lot_named_has es gtin (Err fault) e h = differs_not fault (only_differs (codes "10") es fault e) h
+lot_named_has es gtin (Ok None) e h = cc
+lot_named_has es gtin (Ok (Some lot)) e h = lot_has gtin lot h
+
+named_has : (es : List Element) (sscc gtin serial : Option (List ℕ)) → item_named es sscc gtin serial ≡ Err NoElements → ⊥
+named_has es (Some sscc) (Some gtin) (Some serial) h = cc
+named_has es (Some sscc) None serial h = sscc_has sscc h
+named_has es (Some sscc) (Some gtin) None h = sscc_has sscc h
+named_has es None (Some gtin) (Some serial) h = sgtin_has gtin serial h
+named_has es None (Some gtin) None h = lot_named_has es gtin (only (codes "10") es) refl h
+named_has es None None serial h = cc
 
 item_has : (es : List Element) → item_of es ≡ Err NoElements → ⊥
 item_has es h =
     by (only (codes "00") es) (only (codes "01") es) (only (codes "21") es) refl refl refl h
   where
-    by : (a b c : Result (Option (List ℕ)) ScanFault) → only (codes "00") es ≡ a → only (codes "01") es ≡ b → only (codes "21") es ≡ c → found_item a b c ≡ Err NoElements → ⊥
+    by : (a b c : Result (Option (List ℕ)) ScanFault) → only (codes "00") es ≡ a → only (codes "01") es ≡ b → only (codes "21") es ≡ c → found_item es a b c ≡ Err NoElements → ⊥
     by (Err fault) b c x y z h = differs_not fault (only_differs (codes "00") es fault x) h
     by (Ok sscc) (Err fault) c x y z h = differs_not fault (only_differs (codes "01") es fault y) h
     by (Ok sscc) (Ok gtin) (Err fault) x y z h = differs_not fault (only_differs (codes "21") es fault z) h
-    by (Ok sscc) (Ok gtin) (Ok serial) x y z h = named_has sscc gtin serial h
+    by (Ok sscc) (Ok gtin) (Ok serial) x y z h = named_has es sscc gtin serial h
 
 pub other_texts_are_refused : OtherTextsAreRefused
 unfolding scan_reading

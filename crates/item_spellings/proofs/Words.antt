@@ -18,7 +18,8 @@ use Rattle.item_spellings.specs.Keys.{is_key, is_key_behind, is_sscc_or_other, a
 use Rattle.item_spellings.specs.Laws.{KeysAreRead}
 use Rattle.item_spellings.specs.Named.{named_key, IsNamed}
 use Rattle.item_spellings.specs.declared.lookups.Named.{Named}
-use Rattle.item_spellings.specs.declared.lookups.Named.TheVariants.{Sgtin, Sscc}
+use Rattle.item_spellings.specs.declared.lookups.Named.TheVariants.{Lot, Sgtin, Sscc}
+use Rattle.item_spellings.proofs.LotKeys.{lot_is_key}
 
 digit_small : (b : ℕ) → is_digit b ≡ true → b < 128
 digit_small b h = grind (arith, nat_tests)
@@ -30,6 +31,7 @@ digits_in_utf8 count digits is =
 pub named_is_key : (named : Named) → IsNamed named → IsKey (named_key named)
 named_is_key (Sgtin gtin serial) is = key_of_item gtin.now serial.now is.0 is.1
 named_is_key (Sscc sscc) is = key_of_sscc sscc.now is
+named_is_key (Lot gtin lot) is = lot_is_key gtin.now lot.now is.0 is.1
 
 pub no_item_of_key : (key : List ℕ) (found : Option (List ℕ)) → found ≡ None → (IsSome found ↔ IsKey key) → IsKey key → ⊥
 no_item_of_key key found none same is = let some = subst IsSome none (same.1 is) in true≢false (sym some)

@@ -1,11 +1,12 @@
-use Rattle.std.specs.Prelude.{◌≡◌, ◌↔◌, ◌⊎◌, ℕ, List, codes, Some, Ok, Err}
-use Rattle.std.specs.List.{Contains}
-use Rattle.epc_core.specs.Items.{sgtin_key, sscc_key}
+use Rattle.std.specs.Prelude.{◌≡◌, ◌↔◌, ◌⊎◌, ⊤, ◌+◌, ◌==◌, ℕ, false, List, [], ◌∷◌, codes, Some, Ok, Err}
+use Rattle.std.specs.List.{Contains, list_any}
+use Rattle.epc_core.specs.Items.{sgtin_key, sscc_key, uri_key}
 use Rattle.epc_core.specs.Numbers.{IsChecked}
 use Rattle.epc_core.specs.Serials.{IsSerial}
-use Rattle.epc_core.specs.Spellings.{IsKey}
-use Rattle.item_spellings.specs.Elements.{Element}
+use Rattle.epc_core.specs.Spellings.{IsKey, Spells}
+use Rattle.item_spellings.specs.Elements.{Element, ai_length, fixed_length}
 use Rattle.item_spellings.specs.Keys.{key_reading}
+use Rattle.item_spellings.specs.Lots.{lot_text}
 use Rattle.item_spellings.specs.Reading.{elements_of}
 use Rattle.item_spellings.specs.Scans.{item_of, scan_reading}
 use Rattle.item_spellings.specs.Writing.{IsWriting}
@@ -49,13 +50,33 @@ pub record NamesSscc (es : List Element) (key : List ℕ) : Type 0 where
   pub checked : IsChecked 18 sscc
   pub names : key ≡ sscc_key sscc
 
--- elements name the item of their GTIN and serial number, or of their SSCC, in whatever order they stand
+-- a GTIN and a lot, without a serial number and an SSCC
+pub record NamesLot (es : List Element) (key : List ℕ) : Type 0 where
+  pub gtin : List ℕ
+  pub lot : List ℕ
+  pub gtin_is : IsValue (codes "01") gtin es
+  pub lot_is : IsValue (codes "10") lot es
+  pub no_sscc : Lacks (codes "00") es
+  pub no_serial : Lacks (codes "21") es
+  pub checked : IsChecked 14 gtin
+  pub allowed : IsSerial lot
+  pub names : key ≡ uri_key (lot_text gtin lot)
+
+-- the item of this key is a unit or a lot
+abbrev pub Names : List Element → List ℕ → Type 0
+Names es key = NamesSgtin es key ⊎ (NamesSscc es key ⊎ NamesLot es key)
+
+-- elements name the item of their GTIN and serial number, or of their SSCC, or of their GTIN and lot, in whatever order they stand
 abbrev pub ElementsNameItems : Type 0
-ElementsNameItems = (es : List Element) (key : List ℕ) → (item_of es ≡ Ok key) ↔ (NamesSgtin es key ⊎ NamesSscc es key)
+ElementsNameItems = (es : List Element) (key : List ℕ) → (item_of es ≡ Ok key) ↔ Names es key
 
 -- a scanned text spells the item that the elements name of which it is written
 abbrev pub ScansSpellItems : Type 0
-ScansSpellItems = (text key : List ℕ) → (scan_reading text ≡ Ok key) ↔ ((es : List Element) × IsWriting es text × (NamesSgtin es key ⊎ NamesSscc es key))
+ScansSpellItems = (text key : List ℕ) → (scan_reading text ≡ Ok key) ↔ ((es : List Element) × IsWriting es text × Names es key)
+
+-- the item that a lot names is the one that its text spells
+abbrev pub LotsAreSpelled : Type 0
+LotsAreSpelled = (gtin lot : List ℕ) → IsChecked 14 gtin → IsSerial lot → Spells (lot_text gtin lot) (uri_key (lot_text gtin lot))
 
 -- a text is refused for want of elements where it is written of none
 abbrev pub OtherTextsAreRefused : Type 0
@@ -64,3 +85,20 @@ OtherTextsAreRefused = (text : List ℕ) → (scan_reading text ≡ Err NoElemen
 -- a text is read as a key where it is one, and as no other
 abbrev pub KeysAreRead : Type 0
 KeysAreRead = (text key : List ℕ) → (key_reading text ≡ Some key) ↔ ((text ≡ key) × IsKey key)
+
+-- by the first two digits of an element string how many characters it has, with its identifier, where these digits tell it (GS1 General
+-- Specifications, section 7.8: element strings with predefined length)
+abbrev pub predefined : List (ℕ × ℕ)
+predefined =
+    (0, 20) ∷ (1, 16) ∷ (2, 16) ∷ (3, 16) ∷ (4, 18) ∷ (11, 8) ∷ (12, 8) ∷ (13, 8) ∷ (14, 8) ∷ (15, 8) ∷ (16, 8) ∷ (17, 8)
+    ∷ (18, 8) ∷ (19, 8) ∷ (20, 4) ∷ (31, 10) ∷ (32, 10) ∷ (33, 10) ∷ (34, 10) ∷ (35, 10) ∷ (36, 10) ∷ (41, 16) ∷ []
+
+-- the identifier and the value have so many together
+abbrev pub HaveLengths : List (ℕ × ℕ) → Type 0
+HaveLengths [] = ⊤
+HaveLengths (row ∷ rows) = (ai_length row.0 + fixed_length row.0 ≡ row.1) × HaveLengths rows
+
+-- these have predefined lengths, and no other
+pub record LengthsAreThese : Type 0 where
+  pub each : HaveLengths predefined
+  pub no_other : (first : ℕ) → list_any (λ row. row.0 == first) predefined ≡ false → fixed_length first ≡ 0

@@ -1,6 +1,7 @@
 pub mod Elements
 pub mod Writing
 pub mod Reading
+pub mod Lots
 pub mod Scans
 pub mod Keys
 pub mod Names

@@ -1,13 +1,14 @@
 -- The item that element strings name.
 use Rattle.std.specs.Prelude.{◌||◌, ℕ, Bool, not, if◌then◌else◌, List, [], ◌∷◌, codes, Option, Some, None, Result, Ok, Err, bytes_eq}
 use Rattle.std.specs.List.{list_all}
-use Rattle.epc_core.specs.Items.{sgtin_key, sscc_key}
+use Rattle.epc_core.specs.Items.{sgtin_key, sscc_key, uri_key}
 use Rattle.epc_core.specs.Numbers.{is_checked}
 use Rattle.epc_core.specs.Serials.{is_serial}
 use Rattle.item_spellings.specs.Elements.{Element}
+use Rattle.item_spellings.specs.Lots.{lot_text}
 use Rattle.item_spellings.specs.Reading.{elements_of}
 use Rattle.item_spellings.specs.declared.faults.ScanFault.{ScanFault}
-use Rattle.item_spellings.specs.declared.faults.ScanFault.TheVariants.{NoElements, Differing, TwoItems, NoItem, NoSerial, CheckDigit, BadSerial}
+use Rattle.item_spellings.specs.declared.faults.ScanFault.TheVariants.{NoElements, Differing, TwoItems, NoItem, NoSerial, CheckDigit, BadSerial, BadLot}
 
 -- the value of the first element with this AI
 abbrev pub look : List ℕ → List Element → Option (List ℕ)
@@ -34,22 +35,33 @@ abbrev pub sgtin_item : List ℕ → List ℕ → Result (List ℕ) ScanFault
 sgtin_item gtin serial =
     if is_checked 14 gtin then (if is_serial serial then Ok (sgtin_key gtin serial) else Err BadSerial) else Err CheckDigit
 
--- the item of what is found under AI 00, AI 01 and AI 21
-abbrev pub item_named : Option (List ℕ) → Option (List ℕ) → Option (List ℕ) → Result (List ℕ) ScanFault
-item_named (Some sscc) (Some gtin) (Some serial) = Err TwoItems
-item_named (Some sscc) gtin serial = sscc_item sscc
-item_named None (Some gtin) (Some serial) = sgtin_item gtin serial
-item_named None (Some gtin) None = Err NoSerial
-item_named None None serial = Err NoItem
+-- the lot of a GTIN (AI 01 and AI 10; sections 3.3 and 3.4): a lot number has the characters of a serial number
+abbrev pub lot_item : List ℕ → List ℕ → Result (List ℕ) ScanFault
+lot_item gtin lot =
+    if is_checked 14 gtin then (if is_serial lot then Ok (uri_key (lot_text gtin lot)) else Err BadLot) else Err CheckDigit
 
-abbrev pub found_item : Result (Option (List ℕ)) ScanFault → Result (Option (List ℕ)) ScanFault → Result (Option (List ℕ)) ScanFault → Result (List ℕ) ScanFault
-found_item (Err fault) gtin serial = Err fault
-found_item (Ok sscc) (Err fault) serial = Err fault
-found_item (Ok sscc) (Ok gtin) (Err fault) = Err fault
-found_item (Ok sscc) (Ok gtin) (Ok serial) = item_named sscc gtin serial
+-- what a GTIN names by what is found under AI 10
+abbrev pub lot_named : List ℕ → Result (Option (List ℕ)) ScanFault → Result (List ℕ) ScanFault
+lot_named gtin (Err fault) = Err fault
+lot_named gtin (Ok None) = Err NoSerial
+lot_named gtin (Ok (Some lot)) = lot_item gtin lot
+
+-- the item of what is found under AI 00, AI 01 and AI 21, and, without an SSCC and a serial number, under AI 10
+abbrev pub item_named : List Element → Option (List ℕ) → Option (List ℕ) → Option (List ℕ) → Result (List ℕ) ScanFault
+item_named es (Some sscc) (Some gtin) (Some serial) = Err TwoItems
+item_named es (Some sscc) gtin serial = sscc_item sscc
+item_named es None (Some gtin) (Some serial) = sgtin_item gtin serial
+item_named es None (Some gtin) None = lot_named gtin (only (codes "10") es)
+item_named es None None serial = Err NoItem
+
+abbrev pub found_item : List Element → Result (Option (List ℕ)) ScanFault → Result (Option (List ℕ)) ScanFault → Result (Option (List ℕ)) ScanFault → Result (List ℕ) ScanFault
+found_item es (Err fault) gtin serial = Err fault
+found_item es (Ok sscc) (Err fault) serial = Err fault
+found_item es (Ok sscc) (Ok gtin) (Err fault) = Err fault
+found_item es (Ok sscc) (Ok gtin) (Ok serial) = item_named es sscc gtin serial
 
 abbrev pub item_of : List Element → Result (List ℕ) ScanFault
-item_of es = found_item (only (codes "00") es) (only (codes "01") es) (only (codes "21") es)
+item_of es = found_item es (only (codes "00") es) (only (codes "01") es) (only (codes "21") es)
 
 -- what a scanned text spells: the key of its item, or why it spells none
 unfoldable pub scan_reading : List ℕ → Result (List ℕ) ScanFault

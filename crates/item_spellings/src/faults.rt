@@ -20,8 +20,8 @@ pub enum ScanFault {
     /// There is neither an SSCC nor a GTIN.
     #[error("the text has neither an SSCC (00) nor a GTIN (01)")]
     NoItem,
-    /// There is a GTIN without a serial number.
-    #[error("the GTIN (01) has no serial number (21)")]
+    /// There is a GTIN without a serial number or a lot.
+    #[error("the GTIN (01) has neither a serial number (21) nor a lot (10)")]
     NoSerial,
     /// The last digit of the GTIN or of the SSCC isn't its check digit.
     #[error("the check digit is wrong")]
@@ -29,6 +29,9 @@ pub enum ScanFault {
     /// The serial number has more than 20 characters, or one that none has.
     #[error("the serial number has more than 20 characters, or one that none has")]
     BadSerial,
+    /// The lot has more than 20 characters, or one that none has.
+    #[error("the lot has more than 20 characters, or one that none has")]
+    BadLot,
 }
 
 impl ScanFault {
@@ -44,6 +47,7 @@ impl ScanFault {
             ScanFault::NoSerial => "NoSerial",
             ScanFault::CheckDigit => "CheckDigit",
             ScanFault::BadSerial => "BadSerial",
+            ScanFault::BadLot => "BadLot",
         }
     }
 }

@@ -1,6 +1,6 @@
 //! Laws of the definitions, each of which a call ensures.
 ghost use Rattle.std.specs.Prelude.{◌≡◌};
-ghost use Rattle.item_spellings.specs.Laws.{ElementsNameItems, KeysAreRead, OtherTextsAreRefused, ReadsWhatIsWritten, ScansSpellItems};
+ghost use Rattle.item_spellings.specs.Laws.{ElementsNameItems, KeysAreRead, LengthsAreThese, LotsAreSpelled, OtherTextsAreRefused, ReadsWhatIsWritten, ScansSpellItems};
 
 /// The elements that are read of a text are those of which it is written, so a text has no second reading.
 pub fn reading_is_writing()
@@ -21,4 +21,14 @@ pub fn elements_name_items()
 pub fn scans_spell_items()
     ensures spells { ScansSpellItems }
     ensures others { OtherTextsAreRefused }
+{}
+
+/// The item that a scan of a lot names is the one that the lot's text spells, as it stands in a document.
+pub fn lots_are_spelled()
+    ensures { LotsAreSpelled }
+{}
+
+/// How many characters an element string has whose length its first two digits tell, by the standard's table.
+pub fn lengths_are_these()
+    ensures { LengthsAreThese }
 {}

@@ -2,7 +2,7 @@
 //!
 //! An item is spelled by an EPC text, by the key that is printed of it, or by the GS1 element strings that a scanner
 //! gives (GS1 General Specifications, section 7.8). Keys and EPC texts are `epc_core`'s; this crate reads element
-//! strings, and tells why a text spells no item.
+//! strings, writes a lot as an item, and tells why a text spells no item.
 #![tactic(auto)]
 
 mod bytes;
@@ -12,12 +12,14 @@ mod forms;
 mod keys;
 pub mod laws;
 mod lookups;
+mod lots;
 mod places;
 mod scans;
 mod spellings;
 
 pub use faults::{ScanFault, SpellingFault};
 pub use keys::read_key;
+pub use lots::{lot_text, push_lot_number};
 pub use places::are_one_place;
 pub use scans::read_scan;
 pub use spellings::{Spelled, Spelling, read_item};

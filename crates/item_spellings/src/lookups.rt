@@ -1,8 +1,8 @@
 //! The item that element strings name.
-ghost use Rattle.std.specs.Prelude.{◌≡◌, ℕ, List, Option, Some, None, Ok, Err, option_map, IsTrue};
+ghost use Rattle.std.specs.Prelude.{◌≡◌, ℕ, List, Option, Some, None, Ok, Err, codes, option_map, IsTrue};
 ghost use Rattle.epc_core.specs.Numbers.{IsChecked};
 ghost use Rattle.epc_core.specs.Serials.{IsSerial};
-ghost use Rattle.item_spellings.specs.Scans.{look, all_have, only, sscc_item, sgtin_item, item_named, item_of};
+ghost use Rattle.item_spellings.specs.Scans.{look, all_have, only, lot_item, lot_named, sscc_item, sgtin_item, item_named, item_of};
 ghost use Rattle.item_spellings.specs.Seen.{seen};
 ghost use Rattle.item_spellings.specs.Named.{OnlySeen, NamesItem};
 
@@ -16,6 +16,8 @@ pub(crate) enum Named<'a> {
     Sgtin(&'a [u8], &'a [u8]),
     /// An SSCC-18.
     Sscc(&'a [u8]),
+    /// A GTIN-14 and a lot number.
+    Lot(&'a [u8], &'a [u8]),
 }
 
 /// The item that elements name, or why they name none.
@@ -25,23 +27,24 @@ pub(crate) fn item_of<'a>(elements: &[(&'a [u8], &'a [u8])]) -> Result<Named<'a>
     let sscc = only(elements, b"00")?;
     let gtin = only(elements, b"01")?;
     let serial = only(elements, b"21")?;
-    item_named(sscc, gtin, serial)
+    item_named(elements, sscc, gtin, serial)
 }
 
-/// The item of what is found under AI 00, AI 01 and AI 21.
+/// The item of what is found under AI 00, AI 01 and AI 21, and else under AI 01 and AI 10.
 fn item_named<'a>(
+    elements: &[(&'a [u8], &'a [u8])],
     sscc: Option<&'a [u8]>,
     gtin: Option<&'a [u8]>,
     serial: Option<&'a [u8]>,
 ) -> Result<Named<'a>, ScanFault>
-    ensures { NamesItem (item_named (option_map (λ b. b.now) sscc.entry)
+    ensures { NamesItem (item_named (seen elements.now) (option_map (λ b. b.now) sscc.entry)
         (option_map (λ b. b.now) gtin.entry) (option_map (λ b. b.now) serial.entry)) result }
 {
     match (sscc, gtin, serial) {
         (Some(_), Some(_), Some(_)) => Err(ScanFault::TwoItems),
         (Some(sscc), _, _) => sscc_item(sscc),
         (None, Some(gtin), Some(serial)) => sgtin_item(gtin, serial),
-        (None, Some(_), None) => Err(ScanFault::NoSerial),
+        (None, Some(gtin), None) => lot_named(elements, gtin),
         (None, None, _) => Err(ScanFault::NoItem),
     }
 }
@@ -67,6 +70,29 @@ fn sgtin_item<'a>(gtin: &'a [u8], serial: &'a [u8]) -> Result<Named<'a>, ScanFau
         return Err(ScanFault::BadSerial);
     }
     Ok(Named::Sgtin(gtin, serial))
+}
+
+/// The lot of a GTIN and of what is found under AI 10.
+fn lot_named<'a>(elements: &[(&'a [u8], &'a [u8])], gtin: &'a [u8]) -> Result<Named<'a>, ScanFault>
+    ensures { NamesItem (lot_named gtin.now (only (codes "10") (seen elements.now))) result }
+{
+    match only(elements, b"10")? {
+        Some(lot) => lot_item(gtin, lot),
+        None => Err(ScanFault::NoSerial),
+    }
+}
+
+/// The lot of a GTIN and a lot number.
+fn lot_item<'a>(gtin: &'a [u8], lot: &'a [u8]) -> Result<Named<'a>, ScanFault>
+    ensures { NamesItem (lot_item gtin.now lot.now) result }
+{
+    if !is_checked(gtin, 14) {
+        return Err(ScanFault::CheckDigit);
+    }
+    if !is_serial(lot) {
+        return Err(ScanFault::BadLot);
+    }
+    Ok(Named::Lot(gtin, lot))
 }
 
 /// The value of an AI, which is the same wherever it stands.

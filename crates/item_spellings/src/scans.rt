@@ -7,11 +7,13 @@ ghost use Rattle.item_spellings.specs.Scans.{scan_reading};
 use crate::elements::elements_of;
 use crate::faults::ScanFault;
 use crate::lookups::{Named, item_of};
+use crate::lots::push_lot_number;
 use epc_core::Epc;
 use std::alloc::{AllocError, Global};
 
 /// The item that a scanned text spells: the trade item of its GTIN (AI 01) and serial number (AI 21), or the logistic
-/// unit of its SSCC (AI 00), whatever stands beside them and in any order.
+/// unit of its SSCC (AI 00), or without these the lot of its GTIN and lot number (AI 10), spelled as
+/// [`lot_text`](crate::lot_text) has it; whatever stands beside them and in any order.
 ///
 /// The text is a list of GS1 element strings, with each AI in brackets or as a bar code carries them, where an FNC1
 /// (the byte 29) ends a value of no predefined length; a symbology identifier and an FNC1 in front are passed over. It
@@ -19,10 +21,11 @@ use std::alloc::{AllocError, Global};
 #[tactic(auto, unfolding(crate::specs::Scans::scan_reading))]
 pub fn read_scan(alloc: Global, text: &str) -> Result<Result<Epc, ScanFault>, AllocError>
     // The text is written of exactly the element strings that are read, in brackets or raw, and has no second reading.
-    // The item is that of its GTIN and serial number, or of its SSCC, in whatever order they stand and whatever stands
-    // beside them. A text is refused for want of elements exactly where it is written of none.
-    // Not covered: the table of lengths by the first two digits of an identifier, which tests reach at nine of them; of
-    // several faults which one is named.
+    // The item is that of its GTIN and serial number, or of its SSCC, or without these of its GTIN and lot, in whatever
+    // order they stand and whatever stands beside them. A text is refused for want of elements exactly where it is
+    // written of none.
+    // Not covered: how many digits an identifier has, by its first two, where these tell no length of its value: tests
+    // reach some; of several faults which one is named.
     ensures { IfOk result (λ item. item ≡ scan_reading text.now) }
 {
     let Some(elements) = elements_of(alloc, text)? else {
@@ -62,6 +65,12 @@ fn key_of(alloc: Global, named: &Named<'_>) -> Result<String, AllocError>
         Named::Sscc(sscc) => {
             key.push_str("sscc ")?;
             push_ascii(&mut key, sscc)?;
+        }
+        Named::Lot(gtin, lot) => {
+            key.push_str("uri https://id.gs1.org/01/")?;
+            push_ascii(&mut key, gtin)?;
+            key.push_str("/10/")?;
+            push_lot_number(&mut key, lot)?;
         }
     }
     Ok(key)
