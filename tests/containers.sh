@@ -97,6 +97,8 @@ row "capture A {\"type\":\"AggregationEvent\",$at,\"action\":\"ADD\",\"parentID\
 row "capture A {\"type\":\"AggregationEvent\",$at,\"action\":\"ADD\",\"parentID\":\"p\"}" 'captured 1 known 0 skipped 0'
 row 'recall A x' 'recall A#1 new 1 messages 0 ended'
 row 'recall A p' 'recall A#2 new 1 messages 0 ended'
+captured A "$(pack DELETE q z)"
+row 'recall A q' 'recall A#3 new 1 messages 0 ended'
 ends 'aggregations that are refused, and items that are known by one'
 
 # What adds nothing: OBSERVE and DELETE, the pack of another site, a parent by its child, a pack without children.

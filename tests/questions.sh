@@ -306,7 +306,7 @@ def relate(events, known=None):
                             if place != site:
                                 related[site, item].add((place, item))
                         else:
-                            out.add((site, item, f"at:{place}"))
+                            out.add((site, item, place))
             elif event["kind"] == "make":
                 for other in own:
                     if other is event or (other["kind"] == "make" and event["id"] and other["id"] == event["id"]):
@@ -395,8 +395,17 @@ def relating(events, first, second):
     return "made", [taken, next(n for n, other in enumerate(own) if gives(own[taken], other))]
 
 
-def hold_events(what, text, ways, events):
-    """With --events the first events that relate its pair to the one before stand behind each pair of a way."""
+def leaving(events, site, item, place):
+    """The first event of the site that ships the item, or what it lies in, to a place, and what of that event it left with."""
+    own = events[site]
+    carriers = lambda event: [it for it in event["items"] if item in inside(own, it)] if event["kind"] == "ship" and place in event["to"] else []
+    n = next(n for n, event in enumerate(own) if carriers(event))
+    return n, item if item in carriers(own[n]) else min(carriers(own[n]), key=lambda it: key(it).encode())
+
+
+def hold_events(what, text, ways, events, gone=()):
+    """With --events the first events that relate its pair to the one before stand behind each pair of a way, and behind each
+    shipment out of the traced sites the first event that shows it."""
     wanted = []
     for found, way, _ in ways:
         wanted.append(f"pair {found[0]} {key(found[1])}")
@@ -407,10 +416,15 @@ def hold_events(what, text, ways, events):
                 for n in sorted(set(places), key=places.index):
                     name = f"{way[place - 1][0]}-{n}"
                     wanted.append(f"    by {n + 1} ni:///{name} {time_of(name)} {kind}")
+    for site, item, place in gone:
+        n, carrier = leaving(events, site, item, place)
+        name = f"{site}-{n}"
+        wanted.append(f"outside {site} {key(item)} at:{place}")
+        wanted.append(f"    by {n + 1} ni:///{name} {time_of(name)} shipped" + ("" if carrier == item else f" in {key(carrier)}"))
     same(f"{what} --events", text.splitlines()[1 : 1 + len(wanted)], wanted)
 
 
-def hold_events_json(what, text, ways, events):
+def hold_events_json(what, text, ways, events, gone):
     """The same as JSON, of brief ways: of each pair the step beside it."""
 
     def event(site, n):
@@ -422,7 +436,13 @@ def hold_events_json(what, text, ways, events):
         return {"event": told[0], "kind": kind} if kind == "shipped" else {"input": told[0], "kind": kind, "output": told[1]}
 
     wanted = [[step(way[-2], way[-1])] if len(way) > 1 else [] for _, way, _ in ways]
-    same(f"{what} --events --brief --json", [p["events"] for p in json.loads(text)["pairs"]], wanted)
+    told = json.loads(text)
+    same(f"{what} --events --brief --json", [p["events"] for p in told["pairs"]], wanted)
+    left = []
+    for site, item, place in gone:
+        n, carrier = leaving(events, site, item, place)
+        left.append({"carrier": key(carrier), "destination": f"at:{place}", "event": event(site, n), "item": key(item), "site": site})
+    same(f"{what} --events --brief --json: outside", told["outside"], left)
 
 
 def trace(folder, events):
@@ -444,7 +464,8 @@ def trace(folder, events):
             hold_inside(what, events, item)
             same(f"{what}: head", head, ("forward", root))
             hold_ways(what, ways, wanted, related, False)
-            left = [["outside", s, "uri", i, d] for s, i, d in sorted(out, key=lambda it: (SITES.index(it[0]), key(it[1]), it[2])) if (s, i) in wanted]
+            gone = [it for it in sorted(out, key=lambda it: (SITES.index(it[0]), key(it[1]), it[2])) if it[:2] in wanted]
+            left = [["outside", s, "uri", i, f"at:{place}"] for s, i, place in gone]
             same(f"{what}: the rest", rest, [*left, ["total", str(len(wanted)), "outside", str(len(left))]])
             text_back = ask("trace", folder, site, item, "--back")
             head, ways_back, rest = read_trace(text_back)
@@ -459,9 +480,9 @@ def trace(folder, events):
                 hold_brief(f"{what} --back", ask("trace", "--back", "--brief", folder, site, item), ways_back, True)
                 hold_json(what, ask("trace", "--json", folder, site, item), ways, False)
                 hold_json(f"{what} --back", ask("trace", "--json", "--back", folder, site, item), ways_back, True)
-                hold_events(what, ask("trace", "--events", folder, site, item), ways, events)
+                hold_events(what, ask("trace", "--events", folder, site, item), ways, events, gone)
                 hold_events(f"{what} --back", ask("trace", "--events", "--back", folder, site, item), ways_back, events)
-                hold_events_json(what, ask("trace", "--events", "--brief", "--json", folder, site, item), ways, events)
+                hold_events_json(what, ask("trace", "--events", "--brief", "--json", folder, site, item), ways, events, gone)
         same("an unknown item", ask("trace", folder, site, "x99", status=1), "refused UnknownItem\n")
         same("an unknown item", ask("trace", folder, site, "x99", "--back", status=1), "refused UnknownItem\n")
     same("a site that isn't listed", ask("trace", folder, "west", "x1", status=1), "refused NoSite west\n")

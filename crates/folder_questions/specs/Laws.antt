@@ -10,7 +10,7 @@ use Rattle.recall_outcomes.specs.declared.outcomes.Outcome.TheVariants.{Audited,
 use Rattle.recall_outcomes.specs.declared.outcomes.Ways.{Ways}
 use Rattle.gap_core.specs.Inside.{LiesInside}
 use Rattle.report_core.specs.declared.traces.Trace.{Trace}
-use Rattle.report_core.specs.declared.trail_events.StepEvents.{StepEvents}
+use Rattle.report_core.specs.declared.with_events.ShownEvents.{ShownEvents}
 use Rattle.site_core.specs.Records.{Record, IsSound}
 use Rattle.world_core.specs.EndingLaws.{CanEnd, HasBegun, HasNumbersFor}
 use Rattle.world_core.specs.Faults.{AreOneWorld}
@@ -42,7 +42,7 @@ AuditedRecallsCanEnd =
 -- of them the item left for just those places outside for which it is known to have left; and no site put anything into the item.
 abbrev pub UnnotedTracesMissNothing : Type 0
 UnnotedTracesMissNothing =
-    (records : List Record) (site : ℕ) (item : List ℕ) (ways : Ways) (events : Bool) (trace : Trace) (told : Ways) (behind : Option (Vec (List StepEvents) Global))
+    (records : List Record) (site : ℕ) (item : List ℕ) (ways : Ways) (events : Bool) (trace : Trace) (told : Ways) (behind : Option ShownEvents)
     → AnswersTrace records site item false ways events (Traced trace told behind) Nothing
     → Fits (world_of records) []
     × ((p : Pair) → Contains trace.pairs p ↔ Reaches (WideRelated (captured_of records)) trace.root p)

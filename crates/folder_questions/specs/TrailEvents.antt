@@ -1,11 +1,14 @@
--- The events behind the steps of trails that are told beside a report or a trace.
+-- The events behind the steps of trails, and behind what left the traced sites, that are told beside a report or a trace.
 use Rattle.std.specs.Prelude.{◌≡◌, Bool, true, false, if◌then◌else◌, List, Option, Some, None}
 use Rattle.std.specs.Global.{Global}
 use Rattle.std.specs.declared.vec.Vec.{Vec}
+use Rattle.report_core.specs.OutsideEvents.{AreToldOutside}
 use Rattle.report_core.specs.TrailEvents.{AreToldAlong}
+use Rattle.report_core.specs.declared.outside.OutsideShipment.{OutsideShipment}
 use Rattle.report_core.specs.declared.trail_events.ShownSteps.{ShownSteps}
 use Rattle.report_core.specs.declared.trail_events.ShownSteps.TheVariants.{Each, First, Last}
 use Rattle.report_core.specs.declared.trail_events.StepEvents.{StepEvents}
+use Rattle.report_core.specs.declared.with_events.ShownEvents.{ShownEvents}
 use Rattle.recall_outcomes.specs.declared.outcomes.Ways.{Ways}
 use Rattle.recall_outcomes.specs.declared.outcomes.Ways.TheVariants.{Trails, Steps}
 use Rattle.site_core.specs.Records.{Record}
@@ -29,3 +32,9 @@ steps_from ways = if is_brief ways then First else Each
 abbrev pub TellsEvents : List Record → Bool → ShownSteps → List (List Pair) → Option (Vec (List StepEvents) Global) → Type 0
 TellsEvents records asked shown trails None = asked ≡ false
 TellsEvents records asked shown trails (Some told) = (asked ≡ true) × AreToldAlong (captured_of records) shown trails told.items
+
+-- so of a report or of a trace to where an item went, and for each shipment out of the traced sites what shows it
+abbrev pub TellsShown : List Record → Bool → ShownSteps → List (List Pair) → List OutsideShipment → Option ShownEvents → Type 0
+TellsShown records asked shown trails outside None = asked ≡ false
+TellsShown records asked shown trails outside (Some told) =
+    (asked ≡ true) × AreToldAlong (captured_of records) shown trails told.steps.items × AreToldOutside (captured_of records) outside told.outside

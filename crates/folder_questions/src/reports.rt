@@ -5,15 +5,15 @@ ghost use Rattle.report_core.specs.Reports.{IsReport, TellsFault};
 ghost use Rattle.report_core.specs.TrailEvents.{or_no_pairs};
 ghost use Rattle.site_recovery.specs.Checking.{records_at, world_at};
 ghost use Rattle.site_recovery.specs.FittingAt.{AreAllSites};
-ghost use Rattle.folder_questions.specs.TrailEvents.{TellsEvents, steps_to};
+ghost use Rattle.folder_questions.specs.TrailEvents.{TellsShown, steps_to};
 
 use crate::asked::recall_at;
 use crate::beside::notes_beside;
 use crate::trail_events::is_brief;
-use event_json::{Sequence, Sites};
+use event_json::Sites;
 use frame_core::RecallId;
 use recall_outcomes::{CommandRefusal, Notes, Outcome, Ways};
-use report_core::{RecallReport, ReportFault, StepEvents, report, report_with_events};
+use report_core::{RecallReport, ReportFault, ShownEvents, report, report_with_events};
 use site_core::SiteState;
 use site_folders::{Question, refusal};
 use std::alloc::{AllocError, Global};
@@ -23,7 +23,7 @@ use std::alloc::{AllocError, Global};
 pub struct ReportOf<'a> {
     pub recall: &'a str,
     pub ways: Ways,
-    /// Whether the events behind the steps are told.
+    /// Whether the events behind the steps are told, and those behind what left the traced sites.
     pub events: bool,
 }
 
@@ -40,9 +40,10 @@ impl Question for ReportOf<'_> {
 
     ghost asks = { λ q sites recall. AsksRecall q.recall.now sites recall };
 
-    // The recall's report, where it is asked for with the events behind the steps that are told, and `UnknownRecall`
-    // exactly where no site began the recall; and noted beside it how the records contradict each other, or, where
-    // they don't, just those of its pairs that are missed, and how many items lie in the recalled one.
+    // The recall's report, where it is asked for with the events behind the steps that are told and behind what left
+    // the traced sites, and `UnknownRecall` exactly where no site began the recall; and noted beside it how the records
+    // contradict each other, or, where they don't, just those of its pairs that are missed, and how many items lie in
+    // the recalled one.
     ghost answers = { λ q recall rs told.
         AnswersReport rs recall q.ways q.events told.0 told.1 };
 
@@ -90,18 +91,18 @@ impl Question for ReportOf<'_> {
     }
 }
 
-/// A report, and the events behind its steps, where these are asked for.
+/// A report, and the events behind its steps and its shipments, where these are asked for.
 fn told_report(
     alloc: Global,
     records: &[&SiteState],
     recall: RecallId,
     ways: Ways,
     events: bool,
-) -> Result<(RecallReport, Option<Vec<Sequence<StepEvents>>>), ReportFault>
+) -> Result<(RecallReport, Option<ShownEvents>), ReportFault>
     requires all { AreAllSites (records_at records.now) }
     ensures report { IfOk result (λ told. IsReport (records_at records.now) recall told.0) }
-    ensures events { IfOk result (λ told. TellsEvents (records_at records.now) events
-        (steps_to ways) (map or_no_pairs told.0.trails) told.1) }
+    ensures events { IfOk result (λ told. TellsShown (records_at records.now) events
+        (steps_to ways) (map or_no_pairs told.0.trails) told.0.outside told.1) }
     ensures fault { IfErr result (TellsFault (world_at records.now) recall) }
 {
     if events {

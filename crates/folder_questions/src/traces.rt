@@ -8,7 +8,7 @@ ghost use Rattle.site_recovery.specs.Checking.{records_at, world_at};
 ghost use Rattle.site_recovery.specs.FittingAt.{AreAllSites};
 ghost use Rattle.site_folders.specs.Refusals.{IsRefusal};
 ghost use Rattle.folder_questions.specs.Traces.{AnswersTrace};
-ghost use Rattle.folder_questions.specs.TrailEvents.{TellsEvents, steps_from, steps_to};
+ghost use Rattle.folder_questions.specs.TrailEvents.{TellsEvents, TellsShown, steps_from, steps_to};
 
 use crate::asked::item_at;
 use crate::beside::{misfit_notes, notes_beside};
@@ -18,8 +18,8 @@ use event_json::{Sequence, SiteNo, Sites};
 use item_spellings::Spelled;
 use recall_outcomes::{CommandRefusal, Notes, Outcome, Ways};
 use report_core::{
-    BackTrace, StepEvents, Trace, TraceFault, trace, trace_back, trace_back_with_events,
-    trace_with_events,
+    BackTrace, ShownEvents, StepEvents, Trace, TraceFault, trace, trace_back,
+    trace_back_with_events, trace_with_events,
 };
 use site_core::{Refusal, SiteState};
 use site_folders::{Question, refusal};
@@ -33,7 +33,7 @@ pub struct TraceOf<'a> {
     pub item: Spelled<'a>,
     pub back: bool,
     pub ways: Ways,
-    /// Whether the events behind the steps are told.
+    /// Whether the events behind the steps are told, and those behind what left the traced sites.
     pub events: bool,
 }
 
@@ -109,7 +109,7 @@ fn forward_of(
     }
 }
 
-/// A trace, and the events behind its steps, where these are asked for.
+/// A trace, and the events behind its steps and its shipments, where these are asked for.
 fn told_trace(
     alloc: Global,
     records: &[&SiteState],
@@ -117,11 +117,11 @@ fn told_trace(
     item: &Epc,
     ways: Ways,
     events: bool,
-) -> Result<(Trace, Option<Vec<Sequence<StepEvents>>>), TraceFault>
+) -> Result<(Trace, Option<ShownEvents>), TraceFault>
     requires all { AreAllSites (records_at records.now) }
     ensures trace { IfOk result (λ told. IsTrace (records_at records.now) site item.now told.0) }
-    ensures events { IfOk result (λ told.
-        TellsEvents (records_at records.now) events (steps_to ways) told.0.trails told.1) }
+    ensures events { IfOk result (λ told. TellsShown (records_at records.now) events
+        (steps_to ways) told.0.trails told.0.outside told.1) }
     ensures known { IfOk result (λ told. IsKnownAt (world_at records.now) site item.now) }
     ensures fault { IfErr result (TellsTraceFault (world_at records.now) site item.now) }
 {

@@ -7,10 +7,13 @@ pub mod ItemsOfSites
 pub mod EventsInTurn
 pub mod FirstFound
 pub mod FirstParts
+pub mod FirstUnder
 pub mod KnownItems
+pub mod Leavings
 pub mod LiesInItems
 pub mod OriginsFound
 pub mod Outgoing
+pub mod OutsideLaws
 pub mod Parting
 pub mod PlacesKept
 pub mod EventsRelating

@@ -17,8 +17,10 @@ use Rattle.trace_core.proofs.SetMembers.{found-insert}
 use Rattle.site_core.specs.ItemSets.{item_cmp}
 use Rattle.site_core.proofs.ItemOrder.{item_total, item_exact}
 use Rattle.report_core.specs.FirstPlaces.{AreWanted, IsContainerAt, IsWantedStep, StayWanted}
+use Rattle.report_core.specs.Leaving.{AreWantedOut, IsWantedItem}
 use Rattle.report_core.specs.Sources.{AddsTo}
 use Rattle.report_core.specs.TrailEvents.{StandsAt, steps_of}
+use Rattle.report_core.specs.declared.outside.OutsideShipment.{OutsideShipment}
 use Rattle.report_core.specs.declared.wanted_steps.WantedSteps.{WantedSteps}
 use Rattle.report_core.proofs.Additions.{adds_alike, adds_then}
 
@@ -41,6 +43,24 @@ module _ (old new : WantedSteps) (p q : Pair) (mid : BTreeSet (List ℕ)) (first
 -- what was wanted before
 pub still_wanted : (old new : WantedSteps) → StayWanted old new → (pairs : List Pair) → AreWanted old pairs → AreWanted new pairs
 still_wanted old new stay pairs = All-weaker (λ step. IsWantedStep old step.0 step.1) (λ step. IsWantedStep new step.0 step.1) (λ step. stay step.0 step.1) (steps_of pairs)
+
+-- the item of a shipment out of the traced sites is added, and shipments
+module _ (old new : WantedSteps) (item : List ℕ) (adds : AddsTo (IsFound item_cmp old.items) (IsFound item_cmp new.items) (λ i. item ≡ i)) (ships : IsTrue new.ships) where
+  pub shipment_stays : StayWanted old new
+  shipment_stays p q (from, to, was) = ((adds p.item).1 (inl from), (adds q.item).1 (inl to), λ same. ships)
+
+  pub shipment_wanted : IsWantedItem new item
+  shipment_wanted = ((adds item).1 (inr refl), ships)
+
+-- a shipment leads to the same item
+still_shipped : (old new : WantedSteps) → StayWanted old new → (item : List ℕ) → IsWantedItem old item → IsWantedItem new item
+still_shipped old new stay item (found, ships) =
+    let p : Pair = record { site = 0; item = item } in
+    let (found', again, ships') = stay p p (found, found, λ same. ships) in
+    (found', ships' refl)
+
+pub still_out : (old new : WantedSteps) → StayWanted old new → (outside : List OutsideShipment) → AreWantedOut old outside → AreWantedOut new outside
+still_out old new stay outside = All-weaker (λ (x : OutsideShipment). IsWantedItem old x.item) (λ (x : OutsideShipment). IsWantedItem new x.item) (λ x. still_shipped old new stay x.item) outside
 
 -- what the events of a site before the place put something into
 abbrev pub ContainsBefore : SiteEvents → ℕ → List ℕ → Type 0

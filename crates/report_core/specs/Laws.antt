@@ -1,7 +1,10 @@
 -- What a report, an audit and a trace say once a recall has ended, and that records have one verdict, one trace and one trace back.
-use Rattle.std.specs.Prelude.{◌≡◌, ◌↔◌, ◌⊎◌, ℕ, Option, Some, option_map, IsSome, List, length, map, slice_get, Contains}
+use Rattle.std.specs.Prelude.{◌≡◌, ◌↔◌, ◌⊎◌, ◌<◌, ◌+◌, ℕ, Option, Some, option_map, IsSome, List, length, map, slice_get, Contains}
+use Rattle.event_json.specs.Events.{Content}
 use Rattle.frame_core.specs.Numbers.{Recall}
 use Rattle.trace_core.specs.Chains.{Related}
+use Rattle.trace_core.specs.Pairs.{IsCarriedWith}
+use Rattle.trace_core.specs.Sites.{SiteEvents}
 use Rattle.trace_core.specs.Trails.{IsTrail}
 use Rattle.trace_core.specs.declared.pairs.Pair.{Pair}
 use Rattle.site_core.specs.Records.{Record}
@@ -12,6 +15,8 @@ use Rattle.site_recovery.specs.Fit.{Fit, IsEnded}
 use Rattle.site_recovery.specs.Laws.{AreInPlace, captured_of}
 use Rattle.site_recovery.specs.Looks.{World, world_of}
 use Rattle.site_recovery.specs.Recalls.{quarantined}
+use Rattle.report_core.specs.Outside.{ShipsOut}
+use Rattle.report_core.specs.OutsideEvents.{AreToldOutside}
 use Rattle.report_core.specs.Reports.{IsReport}
 use Rattle.report_core.specs.Traces.{IsBackTrace, IsKnownAt, IsTrace, TellsTraceFault}
 use Rattle.report_core.specs.Verdicts.{IsVerdict}
@@ -19,6 +24,7 @@ use Rattle.report_core.specs.declared.audits.Verdict.{Verdict}
 use Rattle.report_core.specs.declared.audits.Verdict.TheVariants.{Equal}
 use Rattle.report_core.specs.declared.faults.TraceFault.TheVariants.{UnknownItem}
 use Rattle.report_core.specs.declared.outside.OutsideShipment.{OutsideShipment}
+use Rattle.report_core.specs.declared.outside_events.OutsideEvent.{OutsideEvent}
 use Rattle.report_core.specs.declared.reports.RecallReport.{RecallReport}
 use Rattle.report_core.specs.declared.traces.BackTrace.{BackTrace}
 use Rattle.report_core.specs.declared.traces.Trace.{Trace}
@@ -102,3 +108,36 @@ BackTracesGoOn =
 -- A trace is refused as of an unknown item just where the site would refuse to begin a recall of it so.
 abbrev pub RefusedAlike : Type 0
 RefusedAlike = (W : World) (site : ℕ) (item : List ℕ) → TellsTraceFault W site item UnknownItem ↔ Refuses (W site) (Start item) refusals.UnknownItem
+
+-- the told event is one that the shipment's site captured, with its number and eventID; it ships what the item left with to
+-- the destination, which is the item itself where it ships that; and no event before it ships anything there that the item is
+-- carried with
+pub record IsShownBy (sites : List SiteEvents) (x : OutsideShipment) (told : OutsideEvent) : Type 0 where
+  pub site : SiteEvents
+  pub listed : slice_get sites x.site ≡ Some site
+  pub place : ℕ
+  pub event : Content
+  pub captured : slice_get site.events place ≡ Some event
+  pub number : told.event.number ≡ place + 1
+  pub id : told.event.id ≡ event.id
+  pub shipped : ShipsOut told.carrier x.destination event.body
+  pub carried : IsCarriedWith site.events told.carrier x.item
+  pub itself : ShipsOut x.item x.destination event.body → told.carrier ≡ x.item
+  pub first : (k : ℕ) (e : Content) (c : List ℕ) → k < place → slice_get site.events k ≡ Some e → ShipsOut c x.destination e.body → IsCarriedWith site.events c x.item → ⊥
+
+-- Each shipment out of the traced sites that is told has such an event at its place, and there are no other ones.
+abbrev pub OutsideIsShown : Type 0
+OutsideIsShown =
+    (sites : List SiteEvents) (outside : List OutsideShipment) (told : List OutsideEvent) → AreToldOutside sites outside told
+    → ((k : ℕ) (x : OutsideShipment) → slice_get outside k ≡ Some x → (t : OutsideEvent) × (slice_get told k ≡ Some t) × IsShownBy sites x t)
+    × (length told ≡ length outside)
+
+-- the number and the eventID of the event, and what the item left with
+abbrev pub shown_of : OutsideEvent → ℕ × (Option (List ℕ) × List ℕ)
+shown_of told = (told.event.number, (told.event.id, told.carrier))
+
+-- The same shipments have one event each.
+abbrev pub OneOutsideEvent : Type 0
+OneOutsideEvent =
+    (sites : List SiteEvents) (outside : List OutsideShipment) (t u : List OutsideEvent) → AreToldOutside sites outside t → AreToldOutside sites outside u
+    → map shown_of t ≡ map shown_of u

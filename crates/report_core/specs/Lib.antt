@@ -5,7 +5,9 @@ pub mod EventTimes
 pub mod FirstPlaces
 pub mod Gathering
 pub mod Laws
+pub mod Leaving
 pub mod Outside
+pub mod OutsideEvents
 pub mod Reports
 pub mod Sources
 pub mod Traces

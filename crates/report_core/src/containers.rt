@@ -1,6 +1,6 @@
 //! What items lay in.
 ghost use Rattle.std.specs.Prelude.{◌≡◌, ◌↔◌, Some, IfOk, OnOk, Contains, option_map};
-ghost use Rattle.trace_core.specs.Pairs.{IsCarriedWith};
+ghost use Rattle.trace_core.specs.Pairs.{IsCarriedWith, IsStrictlyAscending};
 ghost use Rattle.trace_core.specs.PutIn.{filled};
 ghost use Rattle.trace_core.specs.declared.pairs.Pair.{Pair};
 ghost use Rattle.report_core.specs.Containers.{IsFilledAt};
@@ -119,7 +119,7 @@ pub(crate) fn filled(body: &Body) -> Option<&Epc>
 }
 
 /// The item and all that it lay in, and what that lay in, whatever was taken out since: all that it is carried with,
-/// each once, as pairs at the site. Comes to each of these once.
+/// each once, as pairs at the site, by item. Comes to each of these once.
 pub fn carriers_of(
     alloc: Global,
     containers: &Containers<'_>,
@@ -127,9 +127,10 @@ pub fn carriers_of(
 ) -> Result<Sequence<Pair>, AllocError>
     requires { AreOwnPlaces PutsIn containers.now.site.now.events containers.now.number
         containers.now.packings.now }
-    ensures { IfOk result (λ carriers. (p : Pair) → Contains carriers p
+    ensures all { IfOk result (λ carriers. (p : Pair) → Contains carriers p
         ↔ ((p.site ≡ containers.now.site.now.me)
         × IsCarriedWith containers.now.site.now.events p.item item.now)) }
+    ensures ascending { IfOk result IsStrictlyAscending }
 {
     let root = Pair {
         site: containers.site.me(),

@@ -33,6 +33,13 @@ impl Destination {
     }
 
     /// The text that names it.
+    pub(crate) fn text(&self) -> &PlainText
+        ensures { result.now ≡ self.now }
+    {
+        &self.text
+    }
+
+    /// The text that names it, as a string.
     pub fn as_str(&self) -> &str
         ensures { result.now ≡ self.now }
     {

@@ -1,16 +1,18 @@
 //! The first of those events that pass a test.
-ghost use Rattle.std.specs.Prelude.{◌≡◌, ◌↔◌, ◌⊎◌, ◌≤◌, ℕ, IfOk, IsTrue, OnOk, Some};
+ghost use Rattle.std.specs.Prelude.{◌≡◌, ◌↔◌, ◌⊎◌, ◌≤◌, ℕ, Contains, IfOk, IsTrue, OnOk, Some};
 ghost use Rattle.std.specs.Ordering.{nat_cmp};
 ghost use Rattle.trace_core.specs.Pairs.{HaveOneId, make_id};
 ghost use Rattle.report_core.specs.TrailEvents.{AreOfOneMake, IsFirstOrNone, StandsAt};
 ghost use Rattle.trace_core.specs.Searches.{IsFound};
 ghost use Rattle.report_core.specs.FirstPlaces.{Goes, IsGroupAt, IsOfOne, IsOneOf};
+ghost use Rattle.report_core.specs.Leaving.{LeavesFor};
 ghost use Rattle.report_core.specs.Sources.{AddsTo, ByOne};
 ghost use Rattle.report_core.specs.declared.makers.EventPlace.{EventPlace};
 
+use crate::destinations::Destination;
 use crate::makers::EventPlace;
 use crate::sources::id_of;
-use event_json::{Body, SiteNo};
+use event_json::{Body, PlainText, SiteNo};
 use std::alloc::{AllocError, Global};
 use std::collections::BTreeSet;
 use trace_core::Captured;
@@ -87,6 +89,69 @@ fn goes(body: &Body, to: SiteNo) -> bool
     match body {
         Body::Ship { sites, .. } => sites.as_slice().contains(&to),
         Body::Note { .. } | Body::Make { .. } | Body::Pack { .. } => false,
+    }
+}
+
+/// Whether a shipment of the site at a place among all goes to a place outside the traced sites.
+#[derive(Drop)]
+pub struct GoesOut<'a> {
+    pub site: &'a Captured,
+    pub number: usize,
+    pub destination: &'a Destination,
+}
+
+impl PlaceTest for GoesOut<'_> {
+    ghost use Rattle.std.specs.Prelude.{◌≡◌};
+    ghost use Rattle.report_core.specs.TrailEvents.{StandsAt};
+    ghost use Rattle.report_core.specs.Leaving.{LeavesFor};
+
+    ghost holds = { λ t p. (t.number ≡ p.site) × StandsAt t.site.now.events (LeavesFor t.destination.now) p.event };
+
+    fn test(&self, place: EventPlace) -> bool {
+        self.number == place.site && leaves_at(self.site, place.event, self.destination)
+    }
+}
+
+/// Whether the event at a place is a shipment to a destination.
+fn leaves_at(site: &Captured, place: usize, destination: &Destination) -> bool
+    ensures { IsTrue result ↔ StandsAt site.now.events (LeavesFor destination.now) place }
+{
+    match site.event(place) {
+        Some(event) => leaves_for(event.body(), destination),
+        None => false,
+    }
+}
+
+/// Whether an event is a shipment to a destination.
+fn leaves_for(body: &Body, destination: &Destination) -> bool
+    ensures { IsTrue result ↔ LeavesFor destination.now body.now }
+{
+    match body {
+        Body::Ship { outside, .. } => names(outside.as_slice(), destination.text()),
+        Body::Note { .. } | Body::Make { .. } | Body::Pack { .. } => false,
+    }
+}
+
+/// Whether a text is one of some.
+fn names(texts: &[PlainText], text: &PlainText) -> bool
+    ensures { IsTrue result ↔ Contains texts.now text.now }
+{
+    texts.contains(text)
+}
+
+/// Whether it is this place.
+#[derive(Drop)]
+pub struct IsPlace {
+    pub place: EventPlace,
+}
+
+impl PlaceTest for IsPlace {
+    ghost use Rattle.std.specs.Prelude.{◌≡◌};
+
+    ghost holds = { λ t p. (t.place.site ≡ p.site) × (t.place.event ≡ p.event) };
+
+    fn test(&self, place: EventPlace) -> bool {
+        self.place.site == place.site && self.place.event == place.event
     }
 }
 

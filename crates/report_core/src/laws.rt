@@ -8,8 +8,10 @@ ghost use Rattle.report_core.specs.Laws.{
   EndsAreTraced,
   EndsHaveTrails,
   OneBackTrace,
+  OneOutsideEvent,
   OneTrace,
   OneVerdict,
+  OutsideIsShown,
   PairsHaveSources,
   RefusedAlike,
   TracesAreConverse,
@@ -90,4 +92,17 @@ pub fn a_trace_back_goes_on()
 /// A trace is refused as of an unknown item just where a recall of the item at that site would be.
 pub fn a_trace_is_refused_where_a_recall_is()
     ensures { RefusedAlike }
+{}
+
+/// Each shipment out of the traced sites has an event told beside it: one that its site captured, and which ships what
+/// the item left with to the destination, the item itself where it ships that. No event before it ships anything there
+/// that the item is carried with.
+pub fn a_shipment_out_is_shown()
+    ensures { OutsideIsShown }
+{}
+
+/// The same shipments out of the traced sites have the same events told beside them: the same numbers and eventIDs, and
+/// what the items left with.
+pub fn shipments_out_have_one_event()
+    ensures { OneOutsideEvent }
 {}

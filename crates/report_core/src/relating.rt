@@ -6,12 +6,15 @@ ghost use Rattle.trace_core.specs.Searches.{IsFound};
 ghost use Rattle.site_core.specs.ItemSets.{item_cmp};
 ghost use Rattle.report_core.specs.TrailEvents.{AnswersStep};
 ghost use Rattle.report_core.specs.FirstPlaces.{AnswersMake, AnswersShipment, AreShipments, IsWantedStep, StayWanted, TellsEvent};
+ghost use Rattle.report_core.specs.Leaving.{AnswersLeaving, AnswersOutside, AreUnderEach, IsWantedItem};
 ghost use Rattle.report_core.specs.Sources.{AreItemPlaces, AreOwnPlaces, ArePlaces, PutsIn, ShipsItself};
 
 use crate::containers::{Containers, carriers_of};
 use crate::event_times::time_of;
-use crate::first_places::{GoesTo, JoinedWith, OfOne, first_where, firsts_of};
+use crate::first_places::{GoesOut, GoesTo, JoinedWith, OfOne, first_where, firsts_of};
 use crate::makers::{EventPlace, EventPlaces, Noting, places_of, places_under};
+use crate::outside::OutsideShipment;
+use crate::outside_events::{OutsideEvent, left_with};
 use crate::trail_events::{CapturedEvent, StepEvents};
 use crate::wanted_steps::{WantedSteps, with_containers};
 use epc_core::Epc;
@@ -178,6 +181,69 @@ impl<'a> RelatingEvents<'a> {
             None => Ok(None),
         }
     }
+
+    /// What shows that an item was shipped out of the traced sites, where it was: the first such shipment of the site,
+    /// and what the item left with. Looks at what the item lay in, and at the shipments of that.
+    ///
+    /// # Errors
+    /// Out of memory.
+    pub fn of_outside(
+        &self,
+        alloc: Global,
+        shipment: &OutsideShipment,
+    ) -> Result<Option<OutsideEvent>, AllocError>
+        requires { IsWantedItem self.now.wanted shipment.now.item }
+        ensures { IfOk result (AnswersOutside self.now.sites shipment.now) }
+    {
+        let number = shipment.site.number() as usize;
+        if number >= self.sites.len() {
+            return Ok(None);
+        }
+        let site = self.sites[number];
+        self.leaving_of(alloc, site, number, shipment)
+    }
+
+    /// What shows that the item of a shipment went from the site to the shipment's destination.
+    fn leaving_of(
+        &self,
+        alloc: Global,
+        site: &Captured,
+        number: usize,
+        shipment: &OutsideShipment,
+    ) -> Result<Option<OutsideEvent>, AllocError>
+        requires site { slice_get self.now.sites number ≡ Some site.now }
+        requires wanted { IsWantedItem self.now.wanted shipment.now.item }
+        ensures { IfOk result (AnswersLeaving site.now.events shipment.now.item
+            shipment.now.destination) }
+    {
+        let containers = Containers {
+            site,
+            number,
+            packings: &self.packings,
+        };
+        let carriers = carriers_of(alloc, &containers, &shipment.item)?;
+        let places = places_under_each(alloc, &self.sent, carriers.as_slice())?;
+        let test = GoesOut {
+            site,
+            number,
+            destination: &shipment.destination,
+        };
+        let Some(event) = first_where(&test, places.as_slice()) else {
+            return Ok(None);
+        };
+        let place = EventPlace {
+            site: number,
+            event,
+        };
+        let Some(carrier) = left_with(&self.sent, place, &shipment.item, carriers.as_slice()) else {
+            return Ok(None);
+        };
+        let Some(event) = told(alloc, site, event)? else {
+            return Ok(None);
+        };
+        let carrier = carrier.copy(alloc)?;
+        Ok(Some(OutsideEvent { event, carrier }))
+    }
 }
 
 /// For each item the places of the packings that put it into something, if they are wanted; else none.
@@ -210,9 +276,20 @@ fn shipments_of(
         containers.now.number item.now places.items) }
 {
     let carriers = carriers_of(alloc, containers, item)?;
+    places_under_each(alloc, sent, carriers.as_slice())
+}
+
+/// The places that stand under the items of some pairs.
+fn places_under_each(
+    alloc: Global,
+    index: &BTreeMap<Epc, EventPlaces>,
+    pairs: &[Pair],
+) -> Result<Vec<EventPlace>, AllocError>
+    ensures { IfOk result (λ places. AreUnderEach index.now pairs.now places.items) }
+{
     let mut places = Vec::new(alloc);
-    for carrier in carriers.as_slice() {
-        places.extend_from_slice(places_under(sent, &carrier.item))?;
+    for pair in pairs {
+        places.extend_from_slice(places_under(index, &pair.item))?;
     }
     Ok(places)
 }

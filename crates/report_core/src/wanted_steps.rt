@@ -5,10 +5,12 @@ ghost use Rattle.trace_core.specs.PutIn.{filled};
 ghost use Rattle.trace_core.specs.Searches.{IsFound};
 ghost use Rattle.site_core.specs.ItemSets.{item_cmp};
 ghost use Rattle.report_core.specs.FirstPlaces.{AreWanted, AreWantedAlong, IsContainerAt, IsWantedStep, StayWanted};
+ghost use Rattle.report_core.specs.Leaving.{AreWantedOut, IsWantedItem};
 ghost use Rattle.report_core.specs.Sources.{AddsTo, ByOne};
 ghost use Rattle.report_core.specs.declared.trail_events.ShownSteps.TheVariants.{Each};
 
 use crate::containers::filled;
+use crate::outside::OutsideShipment;
 use crate::shown_trails::ShownTrails;
 use epc_core::Epc;
 use event_json::Body;
@@ -21,7 +23,7 @@ use trace_core::{Captured, Pair};
 pub struct WantedSteps {
     /// The items of their pairs, and maybe others.
     pub items: BTreeSet<Epc>,
-    /// Whether one of them leads to the same item, as shipments do.
+    /// Whether one of them leads to the same item, as shipments do, or an item was shipped out of the traced sites.
     pub ships: bool,
 }
 
@@ -74,6 +76,31 @@ fn add_step(
     if to.item == from.item {
         wanted.ships = true;
     }
+    Ok(())
+}
+
+/// Adds what has to be found for shipments out of the traced sites.
+pub(crate) fn add_outside(
+    alloc: Global,
+    outside: &[OutsideShipment],
+    wanted: &mut WantedSteps,
+) -> Result<(), AllocError>
+    ensures before { OnOk result (StayWanted wanted.old wanted.new) }
+    ensures new { OnOk result (AreWantedOut wanted.new outside.now) }
+{
+    for shipment in outside {
+        add_shipped(alloc, &shipment.item, wanted)?;
+    }
+    Ok(())
+}
+
+/// Adds what has to be found for the shipments of an item.
+fn add_shipped(alloc: Global, item: &Epc, wanted: &mut WantedSteps) -> Result<(), AllocError>
+    ensures before { OnOk result (StayWanted wanted.old wanted.new) }
+    ensures new { OnOk result (IsWantedItem wanted.new item.now) }
+{
+    wanted.items.insert(item.copy(alloc)?)?;
+    wanted.ships = true;
     Ok(())
 }
 

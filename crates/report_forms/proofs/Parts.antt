@@ -4,10 +4,12 @@ use Rattle.std.specs.Option.{unwrap_or}
 use Rattle.std.proofs.lemmas.Grind.{flat_map-append}
 use Rattle.std.proofs.lemmas.List.{map-append, take_more}
 use Rattle.std.proofs.lemmas.Option.{slice_get-get_or, slice_get_within}
+use Rattle.report_core.specs.declared.outside.OutsideShipment.{OutsideShipment}
+use Rattle.report_core.specs.declared.outside_events.OutsideEvent.{OutsideEvent}
 use Rattle.report_core.specs.declared.trail_events.StepEvents.{StepEvents}
 use Rattle.trace_core.proofs.NumberLists.{none_is, some_is}
 use Rattle.trace_core.specs.declared.pairs.Pair.{Pair}
-use Rattle.report_forms.specs.Accounts.{Part, parts_of}
+use Rattle.report_forms.specs.Accounts.{OutsidePart, Part, outside_parts, parts_of}
 use Rattle.report_forms.specs.Csv.{Fields, cell_line, cell_lines}
 use Rattle.report_forms.specs.declared.accounts.Way.{Way}
 use Rattle.report_forms.specs.declared.accounts.Way.TheVariants.{Unknown}
@@ -36,6 +38,32 @@ no_part (a ∷ pairs) ways events (suc n) none = no_part pairs (drop 1 ways) (dr
 pub length-parts_of : (pairs : List Pair) (ways : List Way) (events : List (List StepEvents)) → length (parts_of pairs ways events) ≡ length pairs
 length-parts_of [] ways events = refl
 length-parts_of (p ∷ pairs) ways events = ap suc (length-parts_of pairs (drop 1 ways) (drop 1 events))
+
+-- ---- shipments out of the traced sites
+
+unfoldable pub outside_with : OutsideShipment → Option OutsideEvent → OutsidePart
+outside_with x event = record { shipment = x; event = event }
+
+pub outside_at : (outside : List OutsideShipment) (told : List OutsideEvent) (n : ℕ) (x : OutsideShipment) → slice_get outside n ≡ Some x
+    → slice_get (outside_parts outside told) n ≡ Some (record { shipment = x; event = slice_get told n })
+unfolding outside_with
+outside_at [] told n x at = none_is x at
+outside_at (y ∷ outside) told zero x at = ap (λ z. Some (outside_with z (slice_get told 0))) (some_is y x at)
+outside_at (y ∷ outside) told (suc n) x at = outside_at outside (drop 1 told) n x at ∙ ap (λ e. Some (outside_with x e)) (behind told n)
+
+pub no_outside : (outside : List OutsideShipment) (told : List OutsideEvent) (n : ℕ) → slice_get outside n ≡ None → slice_get (outside_parts outside told) n ≡ None
+no_outside [] told n none = refl
+no_outside (y ∷ outside) told zero none = none_is y (sym none)
+no_outside (y ∷ outside) told (suc n) none = no_outside outside (drop 1 told) n none
+
+pub length-outside_parts : (outside : List OutsideShipment) (told : List OutsideEvent) → length (outside_parts outside told) ≡ length outside
+length-outside_parts [] told = refl
+length-outside_parts (x ∷ outside) told = ap suc (length-outside_parts outside (drop 1 told))
+
+-- with what shows them they are the same shipments
+pub same_shipments : (outside : List OutsideShipment) (told : List OutsideEvent) → map (λ (x : OutsidePart). x.shipment) (outside_parts outside told) ≡ outside
+same_shipments [] told = refl
+same_shipments (x ∷ outside) told = ap (λ rest. x ∷ rest) (same_shipments outside (drop 1 told))
 
 -- ---- place by place
 

@@ -5,7 +5,7 @@ use Rattle.std.specs.Prelude.{All}
 use Rattle.std.proofs.lemmas.List.Elements.{All-append, All-cons, All-head, All-nil, All-tail}
 use Rattle.csv.specs.Reading.{default_config, records}
 use Rattle.event_json.specs.Sites.{Site}
-use Rattle.report_forms.specs.Accounts.{Account}
+use Rattle.report_forms.specs.Accounts.{Account, shipments_of}
 use Rattle.report_forms.specs.Csv.{Fields, account_rows, cell, cell_line, cell_lines, cells, columns_of, csv_line, csv_lines, kind_of, origin_row, outside_row, part_row, recall_field, table_rows}
 use Rattle.report_forms.specs.declared.accounts.Title.{Title}
 use Rattle.report_forms.specs.declared.accounts.Title.TheVariants as titles
@@ -27,11 +27,11 @@ account_full : (sites : List Site) (a : Account) → All IsFull (account_rows si
 account_full sites a =
     let recall = recall_field sites a.title in
     let parts = map (part_row sites recall (kind_of a.title)) a.parts in
-    let outside = map (outside_row sites recall) a.outside in
+    let outside = map (outside_row sites recall) (shipments_of a) in
     let origins = map (origin_row sites recall) a.origins in
     All-cons IsFull (columns_of a.title) (parts ++ (outside ++ origins)) (columns_full a.title)
     (All-append IsFull parts (outside ++ origins) (all_full (part_row sites recall (kind_of a.title)) (λ p. refl) a.parts)
-    (All-append IsFull outside origins (all_full (outside_row sites recall) (λ x. refl) a.outside) (all_full (origin_row sites recall) (λ p. refl) a.origins)))
+    (All-append IsFull outside origins (all_full (outside_row sites recall) (λ x. refl) (shipments_of a)) (all_full (origin_row sites recall) (λ p. refl) a.origins)))
 
 -- rows whose cells are guarded have as many
 cells_full : (g : Bool) (rows : List Fields) → All IsFull rows → All IsFull (map (cells g) rows)

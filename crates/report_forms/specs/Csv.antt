@@ -8,7 +8,7 @@ use Rattle.event_json.specs.Sites.{Site}
 use Rattle.recall_text.specs.Words.{name_at, recall_text}
 use Rattle.report_core.specs.declared.outside.OutsideShipment.{OutsideShipment}
 use Rattle.trace_core.specs.declared.pairs.Pair.{Pair}
-use Rattle.report_forms.specs.Accounts.{Account, Part, way_beside}
+use Rattle.report_forms.specs.Accounts.{Account, Part, shipments_of, way_beside}
 use Rattle.report_forms.specs.declared.accounts.Title.{Title}
 use Rattle.report_forms.specs.declared.accounts.Title.TheVariants as titles
 
@@ -85,7 +85,7 @@ abbrev pub account_rows : List Site → Account → List Fields
 account_rows sites a =
     columns_of a.title
     ∷ map (part_row sites (recall_field sites a.title) (kind_of a.title)) a.parts
-    ++ (map (outside_row sites (recall_field sites a.title)) a.outside ++ map (origin_row sites (recall_field sites a.title)) a.origins)
+    ++ (map (outside_row sites (recall_field sites a.title)) (shipments_of a) ++ map (origin_row sites (recall_field sites a.title)) a.origins)
 
 -- ---- texts that a spreadsheet might take for a formula
 

@@ -1,14 +1,17 @@
-//! A report or a trace in parts: each pair with how it is reached and with the events that are told of that.
+//! A report or a trace in parts: each pair with how it is reached and with the events that are told of that, and each
+//! shipment out of the traced sites with the event that is told of it.
 
 ghost use Rattle.std.specs.Prelude.{◌≡◌, IfOk, length, option_map, slice_get};
 ghost use Rattle.std.specs.Option.{unwrap_or};
-ghost use Rattle.report_forms.specs.Accounts.{back_account, part_of, report_account, trace_account, way_beside, way_pairs, ways_in};
+ghost use Rattle.report_forms.specs.Accounts.{back_account, outside_in, outside_part_of, part_of, report_account};
+ghost use Rattle.report_forms.specs.Accounts.{shipments_of, steps_in, trace_account, way_beside, way_pairs, ways_in};
 ghost use Rattle.report_forms.specs.declared.accounts.Way.TheVariants.{Unknown};
 
 use event_json::Sequence;
 use frame_core::RecallId;
 use report_core::{
-    BackTrace, BackTrail, BackTrails, OutsideShipment, RecallReport, StepEvents, Trace,
+    BackTrace, BackTrail, BackTrails, OutsideEvent, OutsideShipment, RecallReport, ShownEvents,
+    StepEvents, Trace,
 };
 use std::alloc::{AllocError, Global};
 use std::marker::Model;
@@ -71,6 +74,13 @@ pub struct Part<'a> {
     pub events: Option<&'a [StepEvents]>,
 }
 
+/// A shipment out of the traced sites, and what shows it, where that is told.
+#[derive(Drop)]
+pub struct OutsidePart<'a> {
+    pub shipment: &'a OutsideShipment,
+    pub event: Option<&'a OutsideEvent>,
+}
+
 /// The trails of a report or a trace.
 #[derive(Drop)]
 enum AnyTrails<'a> {
@@ -111,26 +121,29 @@ pub struct Account<'a> {
     trails: AnyTrails<'a>,
     events: &'a [Sequence<StepEvents>],
     outside: &'a [OutsideShipment],
+    outside_events: &'a [OutsideEvent],
     origins: &'a [Pair],
 }
 
 impl<'a> Model for Account<'a> {
-    ghost use Rattle.report_forms.specs.Accounts.{Account, account_of, parts_of, ways_in};
+    ghost use Rattle.report_forms.specs.Accounts.{Account, account_of, outside_parts, parts_of, ways_in};
 
     ghost Value = { Account };
 
     ghost view = { λ a. account_of a.title a.root.now
-        (parts_of a.pairs.now (ways_in a.trails) a.events.now) a.outside.now a.origins.now };
+        (parts_of a.pairs.now (ways_in a.trails) a.events.now)
+        (outside_parts a.outside.now a.outside_events.now) a.origins.now };
 }
 
 impl<'a> Account<'a> {
-    /// A report, with the events of the steps of each pair's trail, as far as they are shown.
+    /// A report, with the events behind its steps and shipments, as far as they are shown.
     pub fn of_report(
         recall: RecallId,
         report: &'a RecallReport,
-        events: &'a [Sequence<StepEvents>],
+        events: Option<&'a ShownEvents>,
     ) -> Account<'a>
-        ensures { result ≡ report_account recall report.now events.now }
+        ensures { result ≡ report_account recall report.now
+            (option_map (λ e. e.now) events.entry) }
     {
         Account {
             title: Title::Recall {
@@ -140,23 +153,25 @@ impl<'a> Account<'a> {
             root: &report.root,
             pairs: report.pairs.as_slice(),
             trails: AnyTrails::Held(&report.trails),
-            events,
+            events: steps_in(events),
             outside: report.outside.as_slice(),
+            outside_events: outside_in(events),
             origins: &[],
         }
     }
 
     /// A trace to where an item went.
-    pub fn of_trace(trace: &'a Trace, events: &'a [Sequence<StepEvents>]) -> Account<'a>
-        ensures { result ≡ trace_account trace.now events.now }
+    pub fn of_trace(trace: &'a Trace, events: Option<&'a ShownEvents>) -> Account<'a>
+        ensures { result ≡ trace_account trace.now (option_map (λ e. e.now) events.entry) }
     {
         Account {
             title: Title::Forward,
             root: &trace.root,
             pairs: trace.pairs.as_slice(),
             trails: AnyTrails::Led(&trace.trails),
-            events,
+            events: steps_in(events),
             outside: trace.outside.as_slice(),
+            outside_events: outside_in(events),
             origins: &[],
         }
     }
@@ -172,6 +187,7 @@ impl<'a> Account<'a> {
             trails: AnyTrails::Leading(&trace.trails),
             events,
             outside: &[],
+            outside_events: &[],
             origins: trace.origins.as_slice(),
         }
     }
@@ -212,9 +228,29 @@ impl<'a> Account<'a> {
 
     /// What left the traced sites.
     pub fn outside(&self) -> &[OutsideShipment]
-        ensures { result.now ≡ self.now.outside }
+        ensures { result.now ≡ shipments_of self.now }
     {
         self.outside
+    }
+
+    /// How many shipments left them.
+    pub fn outside_len(&self) -> usize
+        ensures { result ≡ length self.now.outside }
+    {
+        self.outside.len()
+    }
+
+    /// The shipment that left them at a place, from 0.
+    pub fn outside_part(&self, place: usize) -> Option<OutsidePart<'_>>
+        ensures { option_map outside_part_of result ≡ slice_get self.now.outside place }
+    {
+        match self.outside.get(place) {
+            None => None,
+            Some(shipment) => Some(OutsidePart {
+                shipment,
+                event: shown_at(self.outside_events, place),
+            }),
+        }
     }
 
     /// The pairs that no pair is related to.
@@ -225,9 +261,36 @@ impl<'a> Account<'a> {
     }
 }
 
+/// The events of the steps, none where they aren't told.
+fn steps_in<'a>(events: Option<&'a ShownEvents>) -> &'a [Sequence<StepEvents>]
+    ensures { result.now ≡ steps_in (option_map (λ e. e.now) events.entry) }
+{
+    match events {
+        None => &[],
+        Some(events) => events.steps.as_slice(),
+    }
+}
+
+/// The events behind the shipments, none where they aren't told.
+fn outside_in<'a>(events: Option<&'a ShownEvents>) -> &'a [OutsideEvent]
+    ensures { result.now ≡ outside_in (option_map (λ e. e.now) events.entry) }
+{
+    match events {
+        None => &[],
+        Some(events) => events.outside.as_slice(),
+    }
+}
+
 /// The events of the steps of the pair at a place, where they are told.
 fn events_at(events: &[Sequence<StepEvents>], place: usize) -> Option<&[StepEvents]>
     ensures { option_map (λ s. s.now) result ≡ slice_get events.now place }
 {
     Some(events.get(place)?.as_slice())
+}
+
+/// What shows the shipment at a place, where that is told.
+fn shown_at(events: &[OutsideEvent], place: usize) -> Option<&OutsideEvent>
+    ensures { option_map (λ e. e.now) result ≡ slice_get events.now place }
+{
+    events.get(place)
 }

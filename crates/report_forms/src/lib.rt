@@ -9,6 +9,6 @@ pub mod laws;
 mod pictures;
 mod replaced;
 
-pub use accounts::{Account, Part, Title, Way};
+pub use accounts::{Account, OutsidePart, Part, Title, Way};
 pub use csv_tables::csv_table;
 pub use dot_graphs::dot_graph;

@@ -6,8 +6,11 @@ use Rattle.report_core.specs.Containers.{LiesIn}
 use Rattle.report_core.proofs.LiesInItems.{carried_up}
 use Rattle.report_core.proofs.containers.carriers_of.Goals as goal
 
-pub returns : goal.returns
-returns c =
+pub returns-clause-ascending : goal.returns-clause-ascending
+returns-clause-ascending c = c.in_ok-found.ensures.ascending
+
+pub returns-clause-all : goal.returns-clause-all
+returns-clause-all c =
     let s = c.args.containers.now.site.now in
     let number = c.args.containers.now.number in
     let packings = c.args.containers.now.packings.now in

@@ -18,6 +18,6 @@ returns c =
     let s = c.args.containers.now.site.now in
     let carriers = c.as_slice-carrier-items.result.now in
     let tells = CarrierTells s.events c.args.shipments.now c.args.site c.args.item.now in
-    let exact = subst (λ (ps : List Pair). (p : Pair) → Contains ps p ↔ ((p.site ≡ s.me) × IsCarriedWith s.events p.item c.args.item.now)) (sym c.as_slice-carrier-items.ensures) c.in_ok-carriers.ensures in
+    let exact = subst (λ (ps : List Pair). (p : Pair) → Contains ps p ↔ ((p.site ≡ s.me) × IsCarriedWith s.events p.item c.args.item.now)) (sym c.as_slice-carrier-items.ensures) c.in_ok-carriers.ensures.all in
     added_alike c.args.found.now c.loop-carrier.found _ _ (item_told s c.args.containers.now.number c.args.site c.args.item.now c.args.shipments.now carriers c.requires.shipments exact)
     (all_added tells carriers c.loop-carrier.carrier-index c.args.found.now c.loop-carrier.found c.loop-carrier-test.false c.loop-carrier.invariant)

@@ -1,6 +1,17 @@
+use Rattle.std.proofs.Common.{All, sym, subst}
 use Rattle.site_recovery.specs.Checking.{records_at}
+use Rattle.site_recovery.specs.Laws.{captured_of}
+use Rattle.site_recovery.specs.Looks.{Held, world_of}
+use Rattle.report_core.specs.Leaving.{IsShippedOut}
+use Rattle.report_core.proofs.Leavings.{all_shipped_out}
 use Rattle.report_core.proofs.StepsRelated.{chains_there}
 use Rattle.report_core.proofs.with_events.report_with_events.Goals as goal
 
-pub events_along-requires : goal.events_along-requires
-events_along-requires c = chains_there (records_at c.args.sites.now) c.requires.all c.in-Ok.report.root c.in-Ok.report.pairs c.in-Ok.report.trails c.in-Ok.ensures.ok.trails
+pub events_along-requires-clause-related : goal.events_along-requires-clause-related
+events_along-requires-clause-related c = chains_there (records_at c.args.sites.now) c.requires.all c.in-Ok.report.root c.in-Ok.report.pairs c.in-Ok.report.trails c.in-Ok.ensures.ok.trails
+
+pub events_along-requires-clause-out : goal.events_along-requires-clause-out
+events_along-requires-clause-out c =
+    let records = records_at c.args.sites.now in
+    subst (All (IsShippedOut (captured_of records))) (sym c.as_slice-outside.ensures)
+    (all_shipped_out records (λ p. Held (world_of records) p.site c.args.recall p.item) c.in-Ok.report.outside c.in-Ok.ensures.ok.outside)
