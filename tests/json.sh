@@ -69,6 +69,12 @@ tells 1 '{"name":"dairy","refused":"Exists"}
 {"name":"plant","refused":"Exists"}
 {"name":"shop-1","refused":"Exists"}
 {"name":"shop-2","refused":"Exists"}' '' init made "$chain/sites"
+mkdir copied
+tells 0 '{"created":["dairy","plant","shop-1","shop-2"]}' '' copy made copied
+rm copied/plant.db
+tells 1 '{"name":"dairy","refused":"Exists"}
+{"name":"shop-1","refused":"Exists"}
+{"name":"shop-2","refused":"Exists"}' '' copy made copied
 
 tells 1 '{"refused":"NoSite","site":"Dairy"}' '' capture made Dairy none
 tells 3 '' "$(fault Read none 'no such file or folder' Missing)" capture made dairy none

@@ -1,7 +1,7 @@
 #!/usr/bin/env bash
-# Runs scripts at the limits of items, documents, lists of sites and lots of units, and compares each answer: what a
-# definition says by a number or a character is told here a second time, by each character and by the last case on either
-# side of each number.
+# Runs scripts at the limits of items, documents, lists of sites, lots of units and long lists, and compares each answer:
+# what a definition says by a number or a character is told here a second time, by each character and by the last case on
+# either side of each number.
 # Run by hand, and by the gate on the program that it built. RECALL names another program. It takes a few seconds.
 # It ends with status 0 where all is as it should be.
 set -u
@@ -66,6 +66,10 @@ one 'uri urn:epc:id:sgtin:06141.11412345.4' urn:epc:id:sgtin:06141.11412345.4
 one 'uri urn:epc:id:sgtin:0614141123451..4' urn:epc:id:sgtin:0614141123451..4
 one 'uri https://id.gs1.org/01/10614141123458/21/4' https://id.gs1.org/01/10614141123458/21/4
 one 'sscc 106141412345678908' urn:epc:id:sscc:0614141.1234567890
+one 'sscc 106141412345678908' urn:epc:id:sscc:061414.11234567890
+one 'sscc 106141412345678908' urn:epc:id:sscc:061414123456.17890
+one 'uri urn:epc:id:sscc:06141.112345678901' urn:epc:id:sscc:06141.112345678901
+one 'uri urn:epc:id:sscc:1234567890123.4567' urn:epc:id:sscc:1234567890123.4567
 one 'uri https://id.gs1.org/00/106141412345678909' https://id.gs1.org/00/106141412345678909
 # A text has 512 bytes at most.
 long=$(printf 'x%.0s' $(seq 512))
@@ -210,9 +214,10 @@ row 'pump 2' 'ended A#1' 'ended A#2' 'pumped 2 frames 8'
 row 'quarantine A#1' 'pair A uri r' 'pair A uri x' 'pair A uri y' 'pair B uri x' 'pair B uri y' 'quarantined 5 ended'
 ends 'pairs'
 
-# Lots that an event names for its units: 10 lot numbers at most, and 1,000 units, each counted once for each lot.
+# Lots that an event names for its units: 10 lot numbers at most, and 1,000 units, each counted once for each lot. A list of
+# more than 1,000 units becomes an event in parts, with none of its lots.
 
-# tied UNITS LOTS DERIVED UNTIED: an event with so many units whose `ilmd` names the lots from 1 on, converted
+# tied UNITS LOTS DERIVED UNTIED PARTS: an event with so many units whose `ilmd` names the lots from 1 on, converted
 tied() {
     {
         printf '{"type":"ObjectEvent","epcList":['
@@ -222,20 +227,113 @@ tied() {
         printf ']}}'
     } >"$work/document"
     "$recall" convert --lots "$work/document" >"$work/converted" 2>"$work/printed" || failed=1
-    echo "note: written 1 events $((1 + $3)) links 0 lots 0 derived $3 untied $4 left 0" >"$work/wanted"
+    echo "note: written 1 events $(($5 + $3)) links 0 lots 0 derived $3 untied $4 parted $(($5 > 1)) left 0" >"$work/wanted"
     if ! diff -u --label 'as it should be' --label "$1 units of $2 lots" "$work/wanted" "$work/printed"; then
         failed=1
     fi
     rows=$((rows + 1))
 }
-tied 1000 1 1 0
-tied 1001 1 0 1
-tied 500 2 2 0
-tied 501 2 0 1
-tied 100 10 10 0
-tied 101 10 0 1
-tied 1 11 0 1
-tied 0 11 0 0
+tied 1000 1 1 0 1
+tied 1001 1 0 1 2
+tied 500 2 2 0 1
+tied 501 2 0 1 1
+tied 100 10 10 0 1
+tied 101 10 0 1 1
+tied 1 11 0 1 1
+tied 0 11 0 0 1
+
+# Long lists and long documents, in parts that a capture takes; what repeats much stays as it is, and is refused.
+
+# items COUNT: so many items
+items() {
+    seq "$1" | sed 's/.*/"&"/' | paste -sd , | tr -d '\n'
+}
+
+# event NUMBER: a small event
+event() {
+    printf '{"type":"ObjectEvent",%s,"eventID":"e%s","action":"OBSERVE","epcList":["x%s"]}' "$at" "$1" "$1"
+}
+
+# parted EVENTS PARTED LINES taken|refused: the document is converted into so many events and lines, and then captured twice
+parted() {
+    local document=$4
+    "$recall" convert "$work/document" >"$work/converted" 2>"$work/printed" || failed=1
+    rm -rf "$work/chain"
+    mkdir "$work/chain"
+    printf 'site A a\nsite B b\n' >"$work/list"
+    "$recall" init "$work/chain" "$work/list" || failed=1
+    for _ in 1 2; do
+        "$recall" capture "$work/chain" A --lines "$work/converted" 2>"$work/told" | tail -n 1 >>"$work/printed"
+    done
+    {
+        echo "note: written $3 events $1 links 0 lots 0 derived 0 untied 0 parted $2 left 0"
+        if [ "$document" = taken ]; then
+            echo "documents $3 captured $1 known 0 skipped 0 refused 0"
+            echo "documents $3 captured 0 known $1 skipped 0 refused 0"
+        else
+            echo "documents 1 captured 0 known 0 skipped 0 refused 1"
+            echo "documents 1 captured 0 known 0 skipped 0 refused 1"
+        fi
+    } >"$work/wanted"
+    if ! diff -u --label 'as it should be' --label "$1 events in $3 documents" "$work/wanted" "$work/printed"; then
+        failed=1
+    fi
+    rows=$((rows + 1))
+}
+
+# listed COUNT LETTERS: the document is an event with so many items, and so many letters beside them
+listed() {
+    printf '{"type":"ObjectEvent",%s,"eventID":"e","action":"OBSERVE","a":"%s","epcList":[%s]}' \
+        "$at" "$(printf "%$2s" '' | tr ' ' x)" "$(items "$1")" >"$work/document"
+}
+listed 1000 0
+parted 1 0 1 taken
+listed 1001 0
+parted 2 1 1 taken
+listed 2001 0
+parted 3 1 1 taken
+# Beside the list stand 10,000 by weight, and then one more: 97 of them aren't letters.
+listed 1001 9903
+parted 2 1 1 taken
+listed 1001 9904
+parted 1 0 1 refused
+
+# held COUNT LETTERS: the document has so many events, and so many letters beside its body
+held() {
+    {
+        printf '{"type":"EPCISDocument","a":"%s","epcisBody":{"eventList":[' "$(printf "%$2s" '' | tr ' ' x)"
+        for number in $(seq "$1"); do event "$number"; echo; done | paste -sd ,
+        printf ']}}'
+    } >"$work/document"
+}
+held 1000 10000
+parted 1000 0 1 taken
+held 1001 0
+parted 1001 0 2 taken
+held 1001 9980
+parted 1001 0 2 taken
+held 1001 9981
+parted 1001 0 1 refused
+
+# led INPUT MEMBERS LAST: a transformation of 1,001 inputs and one output, with these members, converted and captured; how
+# a trace of this input ends
+led() {
+    printf '{"type":"TransformationEvent",%s,%s"inputEPCList":[%s],"outputEPCList":["out"]}' "$at" "$2" "$(items 1001)" >"$work/document"
+    rm -rf "$work/chain"
+    mkdir "$work/chain"
+    "$recall" init "$work/chain" "$work/list" || failed=1
+    "$recall" convert "$work/document" 2>"$work/told" | "$recall" capture "$work/chain" A --lines - >"$work/printed" 2>"$work/told" || failed=1
+    "$recall" trace "$work/chain" A "$1" --brief 2>"$work/told" | tail -n 1 >"$work/printed"
+    echo "$3" >"$work/wanted"
+    if ! diff -u --label 'as it should be' --label "the input $1" "$work/wanted" "$work/printed"; then
+        failed=1
+    fi
+    rows=$((rows + 1))
+}
+led 1 '"eventID":"e",' 'total 2 outside 0'
+led 1001 '"eventID":"e",' 'total 2 outside 0'
+led 1001 '"transformationID":"t",' 'total 2 outside 0'
+led 1001 '' 'total 2 outside 0'
 
 [ $failed -eq 0 ] && echo "$rows rows"
 exit $failed

@@ -2,10 +2,12 @@
 use Rattle.std.proofs.Common.{◌≡◌, ◌+◌, ◌<◌, ℕ, List, [], ◌∷◌, ◌++◌, Bool, true, false, Option, Some, None, Ok, Err, map, length, refl, sym, ap, subst, ◌∙◌, arith, append_assoc, append-nil, length-append, string_bytes, if◌then◌else◌}
 use Rattle.std.specs.List.{enumerate_from, flat_map}
 use Rattle.std.proofs.lemmas.Grind.{flat_map-append}
-use Rattle.std.proofs.lemmas.List.{map-append}
+use Rattle.std.proofs.lemmas.List.{map-append, map_push}
 use Rattle.serde_json.specs.Data.{Data}
-use Rattle.document_convert.specs.Accounts.{none_yet}
-use Rattle.document_convert.specs.Converted.{AreConverted, AreLinesOf, IsLineOf, account_from, account_with, as_asked, document_at, documents_of, refused_at, refusals_of}
+use Rattle.serde_json.specs.View.{view}
+use Rattle.serde_json.specs.declared.value.Value.{Value}
+use Rattle.document_convert.specs.Accounts.{none_yet, with_line, with_lines}
+use Rattle.document_convert.specs.Converted.{AreConverted, AreLinesOf, IsLineOf, account_from, account_with, as_asked, document_at, documents_of, in_light_parts, refused_at, refusals_of}
 use Rattle.document_convert.specs.Texts.{Piece, begins, by_lines, line_pieces, lines_of, no_value, piece_of, pieces_at, pieces_from, pieces_of, unmarked, value_of, whole_or_lines}
 use Rattle.document_convert.specs.declared.accounts.Account.{Account}
 use Rattle.document_convert.specs.declared.converting.Conversion.{Conversion}
@@ -23,20 +25,41 @@ counted_more : (ways : Conversion) (a : Account) (ds : List Data) (d : Data)
 counted_more ways a [] d = refl
 counted_more ways a (e ∷ ds) d = counted_more ways (account_with ways a e) ds d
 
+-- a line more is counted
+pub lines_counted : (a : Account) (ds : List Data) (d : Data) → with_lines a (ds ++ d ∷ []) ≡ with_line (with_lines a ds) d
+lines_counted a [] d = refl
+lines_counted a (e ∷ ds) d = lines_counted (with_line a e) ds d
+
+-- the line of a document more, behind those of some
+pub line_pushed : (old mid new : List ℕ) (taken : List Value) (d : Value) (line : List ℕ) → ((ds : List Data) → AreLinesOf ds old → AreLinesOf (ds ++ map view taken) mid)
+    → IsLineOf (view d) line → new ≡ mid ++ line → (ds : List Data) → AreLinesOf ds old → AreLinesOf (ds ++ map view (taken ++ d ∷ [])) new
+line_pushed old mid new taken d line so_far is lines ds are =
+    let behind : (ds ++ map view taken) ++ view d ∷ [] ≡ ds ++ map view (taken ++ d ∷ []) =
+    append_assoc ds (map view taken) (view d ∷ []) ∙ ap (λ (es : List Data). ds ++ es) (sym (map_push view taken d)) in
+    subst (λ (es : List Data). AreLinesOf es new) behind
+    (subst (AreLinesOf ((ds ++ map view taken) ++ view d ∷ [])) (sym lines) (line_more (ds ++ map view taken) (view d) mid line (so_far ds are) is))
+
+pub account_pushed : (a old new : Account) (taken : List Value) (d : Value) → old ≡ with_lines a (map view taken) → new ≡ with_line old (view d) → new ≡ with_lines a (map view (taken ++ d ∷ []))
+account_pushed a old new taken d counted is =
+    is ∙ ap (λ b. with_line b (view d)) counted ∙ sym (ap (with_lines a) (map_push view taken d) ∙ lines_counted a (map view taken) (view d))
+
 -- a document more
-pub document_more : (ways : Conversion) (pieces : List Piece) (d : Data) (old new : Converted) (line : List ℕ)
-    → IsLineOf (as_asked ways d) line → string_bytes new.lines ≡ string_bytes old.lines ++ line → new.refused.items ≡ old.refused.items
-    → new.account ≡ account_with ways old.account d
+pub document_more : (ways : Conversion) (pieces : List Piece) (d : Data) (old new : Converted)
+    → ((ds : List Data) → AreLinesOf ds (string_bytes old.lines) → AreLinesOf (ds ++ in_light_parts (as_asked ways d)) (string_bytes new.lines))
+    → new.refused.items ≡ old.refused.items → new.account ≡ account_with ways old.account d
     → AreConverted ways pieces old → AreConverted ways (pieces ++ Ok d ∷ []) new
-document_more ways pieces d old new line is lines same account are =
-    let found : flat_map document_at (pieces ++ Ok d ∷ []) ≡ flat_map document_at pieces ++ d ∷ [] = flat_map-append document_at pieces (Ok d ∷ []) in
-    let written : documents_of ways (pieces ++ Ok d ∷ []) ≡ documents_of ways pieces ++ as_asked ways d ∷ [] =
-    ap (map (as_asked ways)) found ∙ map-append (as_asked ways) (flat_map document_at pieces) (d ∷ []) in
+document_more ways pieces d old new lines same account are =
+    let before = flat_map document_at pieces in
+    let found : flat_map document_at (pieces ++ Ok d ∷ []) ≡ before ++ d ∷ [] = flat_map-append document_at pieces (Ok d ∷ []) in
+    let written : documents_of ways (pieces ++ Ok d ∷ []) ≡ documents_of ways pieces ++ in_light_parts (as_asked ways d) =
+    ap (λ ds. flat_map in_light_parts (map (as_asked ways) ds)) found
+    ∙ ap (flat_map in_light_parts) (map-append (as_asked ways) before (d ∷ []))
+    ∙ flat_map-append in_light_parts (map (as_asked ways) before) (as_asked ways d ∷ [])
+    ∙ ap (λ ds. documents_of ways pieces ++ ds) (append-nil (in_light_parts (as_asked ways d))) in
     record {
-      written = subst (λ ls. AreLinesOf (documents_of ways (pieces ++ Ok d ∷ [])) ls) (sym lines)
-          (subst (λ ds. AreLinesOf ds (string_bytes old.lines ++ line)) (sym written) (line_more (documents_of ways pieces) (as_asked ways d) (string_bytes old.lines) line are.written is));
+      written = subst (λ ds. AreLinesOf ds (string_bytes new.lines)) (sym written) (lines (documents_of ways pieces) are.written);
       told = same ∙ are.told ∙ sym (flat_map-append refused_at pieces (Ok d ∷ []) ∙ append-nil (refusals_of pieces));
-      counted = account ∙ ap (λ a. account_with ways a d) are.counted ∙ sym (ap (account_from ways none_yet) found ∙ counted_more ways none_yet (flat_map document_at pieces) d);
+      counted = account ∙ ap (λ a. account_with ways a d) are.counted ∙ sym (ap (account_from ways none_yet) found ∙ counted_more ways none_yet before d);
     }
 
 -- what is none more
@@ -48,7 +71,7 @@ refused_more ways pieces refused old new same told account are =
     flat_map-append document_at pieces (Err refused ∷ []) ∙ append-nil (flat_map document_at pieces) in
     record {
       written = subst (λ ls. AreLinesOf (documents_of ways (pieces ++ Err refused ∷ [])) ls) (sym same)
-          (subst (λ ds. AreLinesOf (map (as_asked ways) ds) (string_bytes old.lines)) (sym found) are.written);
+          (subst (λ ds. AreLinesOf (flat_map in_light_parts (map (as_asked ways) ds)) (string_bytes old.lines)) (sym found) are.written);
       told = told ∙ ap (λ rs. rs ++ refused ∷ []) are.told ∙ sym (flat_map-append refused_at pieces (Err refused ∷ []));
       counted = account ∙ are.counted ∙ sym (ap (account_from ways none_yet) found);
     }

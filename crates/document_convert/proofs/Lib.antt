@@ -28,3 +28,11 @@ pub mod LinkedLaws
 pub mod UnitKeys
 pub mod LinkPaths
 pub mod UnitLinks
+pub mod ByThousands
+pub mod PartLemmas
+pub mod EventParts
+pub mod PartLaws
+pub mod PartIds
+pub mod DocumentParts
+pub mod ReadParts
+pub mod Weighing

@@ -94,7 +94,7 @@ in_place d events is = by (is_text is_document (type_text d)) refl
 
 -- ---- its other members
 
-its_type : (d : Data) → is_text is_document (type_text d) ≡ true → type_text d ≡ Some (codes "EPCISDocument")
+pub its_type : (d : Data) → is_text is_document (type_text d) ≡ true → type_text d ≡ Some (codes "EPCISDocument")
 its_type d named = by (type_text d) refl named
   where
     by : (o : Option (List ℕ)) → type_text d ≡ o → is_text is_document o ≡ true → o ≡ Some (codes "EPCISDocument")

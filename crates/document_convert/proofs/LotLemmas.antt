@@ -5,7 +5,8 @@ use Rattle.epc_core.specs.declared.items.EpcForm.{EpcForm}
 use Rattle.epc_core.specs.declared.items.EpcForm.TheVariants.{Item}
 use Rattle.epc_core.specs.Forms.{IsForm, key_of_form}
 use Rattle.epc_core.specs.Items.{sgtin_key}
-use Rattle.document_convert.specs.Lots.{lot_of_key, lot_text}
+use Rattle.document_convert.specs.Lots.{lot_of_key}
+use Rattle.item_spellings.specs.Lots.{lot_text}
 use Rattle.document_convert.specs.UnitLots.{gtin_of_key}
 
 pub take_gtin : (gtin rest : List ℕ) → length gtin ≡ 14 → take 14 (gtin ++ rest) ≡ gtin

@@ -3,23 +3,20 @@ use Rattle.std.proofs.lemmas.List.{append_cancel_left}
 use Rattle.std.proofs.Common.{if◌then◌else◌, ◌≡◌, ◌≢◌, ◌++◌, ◌∷◌, [], ◌<◌, ℕ, Bool, true, false, List, Option, Some, None, Result, Ok, Err, length, take, drop, codes, refl, sym, ap, ◌∙◌, subst, arith}
 use Rattle.std.specs.Prelude.{option_and_then, option_map}
 use Rattle.std.specs.List.{list_all}
-use Rattle.percent_encoding.specs.Percent.{percent_decode, percent_encode_byte}
-use Rattle.percent_encoding.proofs.PercentLemmas.{percent_decode-nil, percent_decode-percent_encode_byte, percent_decode_not_percent}
+use Rattle.percent_encoding.specs.Percent.{percent_decode}
 use Rattle.epc_core.specs.declared.items.EpcFault.{EpcFault}
 use Rattle.epc_core.specs.Items.{behind, key_of, sgtin_key, uri_key}
 use Rattle.epc_core.specs.Numbers.{IsChecked}
 use Rattle.epc_core.specs.Reading.{reading}
-use Rattle.epc_core.specs.Serials.{is_serial_byte}
 use Rattle.epc_core.specs.Spellings.{Spells}
-use Rattle.epc_core.proofs.Cuts.{parted-append, behind_some}
-use Rattle.epc_core.proofs.Found.{serial_byte_small}
-use Rattle.epc_core.proofs.Spelled.{not_digit}
+use Rattle.epc_core.proofs.Cuts.{behind_some}
 use Rattle.epc_core.proofs.Told.{reading_from, reading_to}
 use Rattle.epc_core.proofs.Words.{sgtin_from_key}
-use Rattle.document_convert.specs.Lots.{escape, escape_byte, is_kept, lot_of, lot_of_key, lot_read, lot_text, unit_of}
+use Rattle.document_convert.specs.Lots.{lot_of, lot_of_key, lot_read, unit_of}
+use Rattle.item_spellings.specs.Lots.{escape, lot_text}
+use Rattle.item_spellings.proofs.LotKeys.{decoded, opaque_lot}
 use Rattle.document_convert.specs.LotLaws.{IsLotOf, LotsStayApart, SpelledAreLots, SpellingsBecomeOne}
 use Rattle.document_convert.proofs.LotLemmas.{lot_of_item, take_gtin}
-use Rattle.document_convert.proofs.Settled.{both_hold}
 
 -- ---- what is spelled is found
 
@@ -53,30 +50,7 @@ are_lots text spelled is = of_unit (unit_of text) refl is
     of_unit None named is = cc
     of_unit (Some unit) named is = of_read unit (reading unit) named refl is
 
--- ---- the number can be read of its spelling
-
-kept_no_percent : (b : ℕ) → is_kept b ≡ true → b ≢ 37
-kept_no_percent b kept same = let no : is_kept 37 ≡ true = ap is_kept (sym same) ∙ kept in cc
-
-decoded_byte : (b : ℕ) (rest : List ℕ) → b < 256 → percent_decode (escape_byte b ++ rest) ≡ b ∷ percent_decode rest
-decoded_byte b rest small = by (is_kept b) refl
-  where
-    by : (k : Bool) → is_kept b ≡ k → percent_decode ((if k then b ∷ [] else percent_encode_byte b) ++ rest) ≡ b ∷ percent_decode rest
-    by true kept = percent_decode_not_percent b rest (kept_no_percent b kept)
-    by false other = percent_decode-percent_encode_byte b rest small
-
-decoded : (number : List ℕ) → list_all is_serial_byte number ≡ true → percent_decode (escape number) ≡ number
-decoded [] allowed = percent_decode-nil
-decoded (b ∷ bs) allowed =
-    let parts = both_hold (is_serial_byte b) (list_all is_serial_byte bs) allowed in
-    let small : b < 128 = serial_byte_small b parts.0 in
-    decoded_byte b (escape bs) (omega arith) ∙ ap (λ rest. b ∷ rest) (decoded bs parts.1)
-
 -- ---- the item of a lot is an opaque one, with this spelling
-
-opaque_lot : (gtin number : List ℕ) → IsChecked 14 gtin → key_of (lot_text gtin number) ≡ uri_key (lot_text gtin number)
-unfolding key_of
-opaque_lot gtin number checked = rw (parted-append 47 gtin (49 ∷ 48 ∷ 47 ∷ escape number) (not_digit gtin 47 refl checked.are_digits)) refl
 
 same_gtin : (gtin other rest rest_of : List ℕ) → length gtin ≡ 14 → length other ≡ 14 → gtin ++ rest ≡ other ++ rest_of → gtin ≡ other
 same_gtin gtin other rest rest_of a b same = sym (take_gtin gtin rest a) ∙ ap (take 14) same ∙ take_gtin other rest_of b

@@ -163,7 +163,7 @@ was_read (Ok e) x is = (e, refl)
 was_read (Err flaw) x is = cc
 
 -- a text is no other one
-no_other : (text a b : List ℕ) → bytes_eq text a ≡ true → bytes_eq a b ≡ false → bytes_eq text b ≡ false
+pub no_other : (text a b : List ℕ) → bytes_eq text a ≡ true → bytes_eq a b ≡ false → bytes_eq text b ≡ false
 no_other text a b is other = ap (λ t. bytes_eq t b) ((bytes_eq-Decides text a).0 is) ∙ other
 
 read_none : (sites : List Site) (d : Data) (x : Option Content) → event_of sites d ≡ Ok x → has_quantities d ≡ false

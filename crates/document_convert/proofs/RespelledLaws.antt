@@ -10,7 +10,8 @@ use Rattle.event_json.specs.Checks.{type_text}
 use Rattle.event_json.specs.Members.{member_named, present}
 use Rattle.event_json.specs.Untraced.{in_order, is_text}
 use Rattle.document_convert.specs.Types.{with_member}
-use Rattle.document_convert.specs.Lots.{SpellsLot, lot_of, lot_text}
+use Rattle.document_convert.specs.Lots.{SpellsLot, lot_of}
+use Rattle.item_spellings.specs.Lots.{lot_text}
 use Rattle.document_convert.specs.Respelled.{Spelling, differs, is_otherwise, item_otherwise, otherwise_as, respelled_item, spelled, spelled_at, spelled_item, spelled_member, spelled_text, spells_otherwise_by, value_otherwise, with_spelled}
 use Rattle.document_convert.specs.LotLaws.{AreSpelled, EventsAreRespelled, EventsAreSpelled, IsSpelled, TextsAreRespelled}
 use Rattle.document_convert.proofs.Beside.{same_type}

@@ -15,7 +15,7 @@ use Rattle.event_json.specs.Documents.{event_list, listed}
 use Rattle.event_json.specs.Members.{member_named, present}
 use Rattle.event_json.specs.Untraced.{in_order, is_text}
 use Rattle.document_convert.specs.Documents.{document_around}
-use Rattle.document_convert.specs.Lots.{lot_text}
+use Rattle.item_spellings.specs.Lots.{lot_text}
 use Rattle.document_convert.specs.LotEvents.{array_of, has_unit_lots, lot_event, lot_events, lot_events_from, lot_id, short, spellings, transformation, with_found, with_id, with_own}
 use Rattle.document_convert.specs.LotLaws.{Names}
 use Rattle.document_convert.specs.Lotted.{converted_event, document_with_lots, events_with_lots, has_lots, lotted}

@@ -15,8 +15,9 @@ use Rattle.event_writing.proofs.Keys.{logistic_unit, trade_item}
 use Rattle.event_writing.proofs.Links.{item_spelled, sscc_spelled}
 use Rattle.item_spellings.specs.declared.faults.ScanFault.{ScanFault}
 use Rattle.item_spellings.specs.Elements.{Element}
-use Rattle.item_spellings.specs.Laws.{NamesSgtin, NamesSscc}
+use Rattle.item_spellings.specs.Laws.{Names, NamesSgtin, NamesSscc}
 use Rattle.item_spellings.specs.Scans.{scan_reading}
+use Rattle.item_spellings.specs.Writing.{IsWriting}
 use Rattle.item_spellings.proofs.Naming.{scans_spell_items}
 use Rattle.document_convert.specs.Links.{link_of, link_of_elements, link_of_key, link_of_link, link_read, path_of, unit_at}
 use Rattle.document_convert.specs.LinkLaws.{IsItemPath, IsSsccPath, LinksAreUnits, NamesByElements, NamesByLink, NamesUnit, TextsAreLinked, UnitsBecomeLinks, UnitsStayApart}
@@ -56,6 +57,10 @@ unit_of_elements : (es : List Element) (key : List ℕ) → NamesSgtin es key �
 unit_of_elements es key (inl n) = inl (record { gtin = n.gtin; serial = n.serial; checked = n.checked; allowed = n.allowed; is = n.names })
 unit_of_elements es key (inr n) = inr (record { digits = n.sscc; checked = n.checked; is = n.names })
 
+as_named : (es : List Element) (key : List ℕ) → NamesSgtin es key ⊎ NamesSscc es key → Names es key
+as_named es key (inl n) = inl n
+as_named es key (inr n) = inr (inl n)
+
 unit_at_path : (path key : List ℕ) → IsItemPath path key ⊎ IsSsccPath path key → IsUnitAt path key
 unit_at_path path key (inl p) = item_to path key p
 unit_at_path path key (inr p) = sscc_to path key p
@@ -79,7 +84,7 @@ no_link rest = refl
 
 by_elements : (text key : List ℕ) (n : NamesByElements text key) → link_of_elements (codes "(" ++ n.rest) ≡ Some (item_text key)
 by_elements text key n =
-    let read : scan_reading text ≡ Ok key = (scans_spell_items text key).1 (n.elements, n.written, n.named) in
+    let read : scan_reading text ≡ Ok key = (scans_spell_items text key).1 (n.elements, n.written, as_named n.elements key n.named) in
     ap (λ (r : Result (List ℕ) ScanFault). link_read r) (ap scan_reading (sym n.bracket) ∙ read)
     ∙ has_link key (unit_of_elements n.elements key n.named)
 
@@ -121,14 +126,24 @@ from_link text link is = of_path (path_of text) refl is
 from_elements : (text link : List ℕ) → link_of_elements text ≡ Some link → IsLinked text link
 from_elements text link is = of_bracket (behind (codes "(") text) refl is
   where
-    of_read : (rest : List ℕ) (read : Result (List ℕ) ScanFault) → text ≡ codes "(" ++ rest → scan_reading text ≡ read → link_read read ≡ Some link → IsLinked text link
-    of_read rest (Ok key) bracket r is =
-        let (es, written, named) = (scans_spell_items text key).0 r in
+    of_unit : (rest : List ℕ) (es : List Element) (key : List ℕ) → text ≡ codes "(" ++ rest → IsWriting es text → link_of_key key ≡ Some link → NamesSgtin es key ⊎ NamesSscc es key → IsLinked text link
+    of_unit rest es key bracket written is named =
         let its = unit_of_elements es key named in (
           key,
           inr (record { rest = rest; bracket = bracket; elements = es; written = written; named = named }),
           subst (λ t. Spells t key) (sym (its_link key link its is)) (unit_spelled key its),
         )
+
+    -- a lot has none
+    of_named : (rest : List ℕ) (es : List Element) (key : List ℕ) → text ≡ codes "(" ++ rest → IsWriting es text → link_of_key key ≡ Some link → Names es key → IsLinked text link
+    of_named rest es key bracket written is (inl n) = of_unit rest es key bracket written is (inl n)
+    of_named rest es key bracket written is (inr (inl n)) = of_unit rest es key bracket written is (inr n)
+    of_named rest es key bracket written is (inr (inr n)) = let no = sym (ap link_of_key n.names) ∙ is in cc
+
+    of_read : (rest : List ℕ) (read : Result (List ℕ) ScanFault) → text ≡ codes "(" ++ rest → scan_reading text ≡ read → link_read read ≡ Some link → IsLinked text link
+    of_read rest (Ok key) bracket r is =
+        let (es, written, named) = (scans_spell_items text key).0 r in
+        of_named rest es key bracket written is named
     of_read rest (Err e) bracket r is = cc
 
     of_bracket : (o : Option (List ℕ)) → behind (codes "(") text ≡ o → option_and_then (λ _. link_read (scan_reading text)) o ≡ Some link → IsLinked text link

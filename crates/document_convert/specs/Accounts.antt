@@ -6,6 +6,7 @@ use Rattle.event_json.specs.Checks.{type_text}
 use Rattle.event_json.specs.Members.{count_of, member_named}
 use Rattle.event_json.specs.Untraced.{listed_events}
 use Rattle.document_convert.specs.Links.{link_of}
+use Rattle.document_convert.specs.Parted.{has_parts}
 use Rattle.document_convert.specs.Quantities.{has_quantities}
 use Rattle.document_convert.specs.Respelled.{spells_otherwise_by}
 use Rattle.document_convert.specs.UnitLots.{is_untied}
@@ -44,7 +45,7 @@ quantities d = elements_from 0 (listed_events d)
 -- ---- all documents
 
 abbrev pub none_yet : Account
-none_yet = record { written = 0; events = 0; links = 0; lots = 0; derived = 0; untied = 0; left = 0 }
+none_yet = record { written = 0; events = 0; links = 0; lots = 0; derived = 0; untied = 0; parted = 0; left = 0 }
 
 -- how many events a document has
 abbrev pub event_count : Data → ℕ
@@ -60,15 +61,39 @@ abbrev pub untied_of : Bool → Data → ℕ
 untied_of true d = count_by is_untied (listed_events d)
 untied_of false d = 0
 
--- with a document that had so many quantities, events, events with units as links now, and events with too many lots, as it was written: each of
--- the quantities that isn't left is a lot among the items, and each event more was derived
-abbrev pub with_document : Account → ℕ → ℕ → ℕ → ℕ → Data → Account
-with_document a had came linked untied d = record {
-  written = up a.written 1;
-  events = up a.events (event_count d);
+-- how many events of a document become parts, where it is parted
+abbrev pub parted_if : Bool → Data → ℕ
+parted_if true d = count_by has_parts (listed_events d)
+parted_if false d = 0
+
+-- with a document that had so many quantities, events, events with units as links now, events with too many lots, and events that become parts,
+-- as it is before they do: each of the quantities that isn't left is a lot among the items, and each event more was derived
+abbrev pub with_document : Account → ℕ → ℕ → ℕ → ℕ → ℕ → Data → Account
+with_document a had came linked untied parted d = record {
+  written = a.written;
+  events = a.events;
   links = up a.links linked;
   lots = up a.lots (had - quantities d);
   derived = up a.derived (event_count d - came);
   untied = up a.untied untied;
+  parted = up a.parted parted;
   left = up a.left (count_by has_quantities (listed_events d));
 }
+
+-- with a line more
+abbrev pub with_line : Account → Data → Account
+with_line a d = record {
+  written = up a.written 1;
+  events = up a.events (event_count d);
+  links = a.links;
+  lots = a.lots;
+  derived = a.derived;
+  untied = a.untied;
+  parted = a.parted;
+  left = a.left;
+}
+
+-- with these lines more
+abbrev pub with_lines : Account → List Data → Account
+with_lines a [] = a
+with_lines a (d ∷ ds) = with_lines (with_line a d) ds

@@ -5,9 +5,11 @@ use Rattle.json.specs.Lex.{tokens}
 use Rattle.json.specs.Print.{print}
 use Rattle.serde_json.specs.Data.{Data, depth}
 use Rattle.serde_json.specs.Read.{max_depth, read}
-use Rattle.document_convert.specs.Accounts.{event_count, links_of, none_yet, quantities, untied_of, with_document}
+use Rattle.document_convert.specs.Accounts.{event_count, links_of, none_yet, parted_if, quantities, untied_of, with_document, with_lines}
+use Rattle.document_convert.specs.LightParts.{is_light_document}
 use Rattle.document_convert.specs.Linked.{document_with_links}
 use Rattle.document_convert.specs.Lotted.{document_with_lots}
+use Rattle.document_convert.specs.Parted.{in_parts}
 use Rattle.document_convert.specs.Texts.{Piece, pieces_of}
 use Rattle.document_convert.specs.declared.accounts.Account.{Account}
 use Rattle.document_convert.specs.declared.converting.Conversion.{Conversion}
@@ -48,20 +50,37 @@ abbrev pub lotted_if : Bool → Data → Data
 lotted_if true d = document_with_lots d
 lotted_if false d = d
 
--- a document as it is written: the links first, and then the lots
+-- a document as it is before long lists are parted: the links first, and then the lots
 abbrev pub as_asked : Conversion → Data → Data
 as_asked ways d = lotted_if ways.lots (linked_if ways.links d)
 
+-- a document in parts, or as it is
+abbrev pub parts_if : Bool → Data → List Data
+parts_if true d = in_parts d
+parts_if false d = d ∷ []
+
+-- in parts where they repeat little
+abbrev pub in_light_parts : Data → List Data
+in_light_parts d = parts_if (is_light_document d) d
+
 -- the documents of a text, as they are written
 abbrev pub documents_of : Conversion → List Piece → List Data
-documents_of ways pieces = map (as_asked ways) (flat_map document_at pieces)
+documents_of ways pieces = flat_map in_light_parts (map (as_asked ways) (flat_map document_at pieces))
 
 abbrev pub refusals_of : List Piece → List Refused
 refusals_of pieces = flat_map refused_at pieces
 
--- with a document more: the lots that weren't tied are those of its events with their units as links
+-- how many events of a document become parts
+abbrev pub parted_of : Data → ℕ
+parted_of d = parted_if (is_light_document d) d
+
+-- with a document more, that is as asked: the lots that weren't tied are those of its events with their units as links
 abbrev pub account_with : Conversion → Account → Data → Account
-account_with ways a d = with_document a (quantities d) (event_count d) (links_of ways.links d) (untied_of ways.lots (linked_if ways.links d)) (as_asked ways d)
+account_with ways a d =
+    with_lines
+    (with_document a (quantities d) (event_count d) (links_of ways.links d) (untied_of ways.lots (linked_if ways.links d)) (parted_of (as_asked ways d))
+    (as_asked ways d))
+    (in_light_parts (as_asked ways d))
 
 abbrev pub account_from : Conversion → Account → List Data → Account
 account_from ways a [] = a

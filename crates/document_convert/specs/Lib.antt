@@ -7,6 +7,7 @@ pub mod Respelled
 pub mod Links
 pub mod Speller
 pub mod UnitLots
+pub mod Weights
 pub mod SeenLots
 pub mod LotEvents
 pub mod Lotted
@@ -15,5 +16,8 @@ pub mod Linked
 pub mod LinkLaws
 pub mod UnitLaws
 pub mod Texts
+pub mod Parted
+pub mod PartLaws
+pub mod LightParts
 pub mod Accounts
 pub mod Converted

@@ -13,7 +13,8 @@ use Rattle.event_json.specs.Documents.{document_of, event_list}
 use Rattle.event_json.specs.Members.{member_named}
 use Rattle.event_json.specs.Sites.{Site}
 use Rattle.event_json.specs.declared.documents.Doc.{Doc}
-use Rattle.document_convert.specs.Lots.{SpellsLot, lot_of, lot_text}
+use Rattle.document_convert.specs.Lots.{SpellsLot, lot_of}
+use Rattle.item_spellings.specs.Lots.{lot_text}
 use Rattle.document_convert.specs.Quantities.{and_texts, list_of, lot_in, lots_of, moved, with_its_lots}
 use Rattle.document_convert.specs.Respelled.{Spelling, respelled_item, respelled_text, spelled_item, spells_otherwise, with_spelled}
 use Rattle.document_convert.specs.LotEvents.{has_unit_lots}

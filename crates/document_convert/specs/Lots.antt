@@ -1,32 +1,12 @@
--- Lots: a GTIN with a batch or lot number (GS1 General Specifications, application identifiers 01 and 10).
-use Rattle.std.specs.Prelude.{is_none, ◌≡◌, ℕ, Bool, ◌==◌, ◌&&◌, ◌||◌, nat_le, if◌then◌else◌, List, [], ◌∷◌, ◌++◌, length, take, drop, codes, Option, Some, None, option_and_then, option_map, unwrap_or, Result, Ok, Err}
-use Rattle.std.specs.List.{flat_map}
+-- Which lot a text spells: a GTIN with a batch or lot number (GS1 General Specifications, application identifiers 01 and 10).
+use Rattle.std.specs.Prelude.{is_none, ◌≡◌, ℕ, Bool, ◌==◌, if◌then◌else◌, List, [], ◌∷◌, ◌++◌, length, take, drop, codes, Option, Some, None, option_and_then, option_map, unwrap_or, Result, Ok, Err}
 use Rattle.std.specs.Option.{option_or}
-use Rattle.percent_encoding.specs.Percent.{percent_encode_byte}
 use Rattle.epc_core.specs.Items.{behind, parted, sgtin_key}
 use Rattle.epc_core.specs.Numbers.{IsChecked}
 use Rattle.epc_core.specs.Reading.{reading}
 use Rattle.epc_core.specs.Serials.{IsSerial}
 use Rattle.epc_core.specs.Spellings.{Spells, sgtin_link}
-
--- ---- how a lot is written
-
--- a letter, a digit, `-`, `.` or `_`
-abbrev pub is_kept : ℕ → Bool
-is_kept b = (nat_le 65 b && nat_le b 90) || (nat_le 97 b && nat_le b 122) || (nat_le 48 b && nat_le b 57) || b == 45 || b == 46 || b == 95
-
--- any other byte is `%` and two digits, of capital letters
-abbrev pub escape_byte : ℕ → List ℕ
-escape_byte b = if is_kept b then b ∷ [] else percent_encode_byte b
-
-abbrev pub escape : List ℕ → List ℕ
-escape number = flat_map escape_byte number
-
--- the one spelling of a lot as an item (GS1 Digital Link standard, URI syntax)
-abbrev pub lot_text : List ℕ → List ℕ → List ℕ
-lot_text gtin number = codes "https://id.gs1.org/01/" ++ (gtin ++ (codes "/10/" ++ escape number))
-
--- ---- which lot a text spells
+use Rattle.item_spellings.specs.Lots.{escape, lot_text}
 
 -- A lot number has the characters of a serial number, and an LGTIN is written as an SGTIN, so a text that names a lot names the unit
 -- that has the lot number for its serial number, once the one word for lots is replaced.

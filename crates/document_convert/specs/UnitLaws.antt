@@ -11,7 +11,7 @@ use Rattle.event_json.specs.Checks.{type_text}
 use Rattle.event_json.specs.Documents.{event_list}
 use Rattle.event_json.specs.Members.{member_named}
 use Rattle.event_json.specs.Untraced.{in_order}
-use Rattle.document_convert.specs.Lots.{lot_text}
+use Rattle.item_spellings.specs.Lots.{lot_text}
 use Rattle.document_convert.specs.LotEvents.{array_of, lot_events}
 use Rattle.document_convert.specs.LotLaws.{Names}
 use Rattle.document_convert.specs.Lotted.{converted_event, document_with_lots, events_with_lots, lotted}

@@ -10,7 +10,7 @@ use Rattle.epc_core.specs.Serials.{is_serial}
 use Rattle.event_json.specs.Checks.{type_text}
 use Rattle.event_json.specs.Members.{member_named}
 use Rattle.event_json.specs.Untraced.{in_order}
-use Rattle.document_convert.specs.Lots.{lot_text}
+use Rattle.item_spellings.specs.Lots.{lot_text}
 
 -- ---- lists of texts
 

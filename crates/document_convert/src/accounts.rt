@@ -4,13 +4,28 @@ ghost use Rattle.std.specs.Prelude.{◌≡◌, count_by, IfOk, length, option_ma
 ghost use Rattle.serde_json.specs.View.{items_view, view};
 ghost use Rattle.event_json.specs.Members.{member_named};
 ghost use Rattle.event_json.specs.Untraced.{in_order, listed_events};
-ghost use Rattle.document_convert.specs.Accounts.{elements_by, elements_in, elements_of, elements_from, event_count, links_of, none_yet, quantities, untied_of, with_document};
+ghost use Rattle.document_convert.specs.Accounts.{
+  elements_by,
+  elements_in,
+  elements_of,
+  elements_from,
+  event_count,
+  links_of,
+  none_yet,
+  parted_if,
+  quantities,
+  untied_of,
+  with_document,
+  with_line,
+};
 ghost use Rattle.document_convert.specs.Links.{link_of};
+ghost use Rattle.document_convert.specs.Parted.{has_parts};
 ghost use Rattle.document_convert.specs.Quantities.{has_quantities};
 ghost use Rattle.document_convert.specs.Respelled.{spells_otherwise_by};
 ghost use Rattle.document_convert.specs.UnitLots.{is_untied};
 
 use crate::event_lists::events_of;
+use crate::parted::has_parts;
 use crate::quantities::has_quantities;
 use crate::respelling::{Speller, spells_otherwise_by};
 use crate::types::{member_named, type_text};
@@ -23,7 +38,7 @@ use std::alloc::{AllocError, Global};
 pub struct Account {
     /// The documents that were written, one a line.
     pub written: u64,
-    /// Their events, derived ones too.
+    /// Their events, derived ones and parts too.
     pub events: u64,
     /// The events with units that are links now.
     pub links: u64,
@@ -34,6 +49,9 @@ pub struct Account {
     /// The events with more lots of units than were tied to these: over 10 lot numbers, or over 1,000 units, each
     /// counted once for each lot.
     pub untied: u64,
+    /// The events that became parts, since they had a list of more than 1,000 members: none of a document that stayed
+    /// as it is, since its parts would have repeated much.
+    pub parted: u64,
     /// The events that still have quantities, with which a capture refuses them.
     pub left: u64,
 }
@@ -50,6 +68,7 @@ impl Account {
             lots: 0,
             derived: 0,
             untied: 0,
+            parted: 0,
             left: 0,
         }
     }
@@ -63,11 +82,13 @@ impl Account {
             lots: self.lots.saturating_add(more.lots),
             derived: self.derived.saturating_add(more.derived),
             untied: self.untied.saturating_add(more.untied),
+            parted: self.parted.saturating_add(more.parted),
             left: self.left.saturating_add(more.left),
         }
     }
 
-    /// The line that tells it, as `note: written 1 events 3 links 0 lots 2 derived 1 untied 0 left 0`, with its LF.
+    /// The line that tells it, as
+    /// `note: written 1 events 3 links 0 lots 2 derived 1 untied 0 parted 0 left 0`, with its LF.
     ///
     /// # Errors
     /// Where memory runs out.
@@ -79,11 +100,14 @@ impl Account {
             lots,
             derived,
             untied,
+            parted,
             left,
         } = self;
         let mut text = format!(in alloc; "note: written {written} events {events}")?;
         text.push_str(format!(in alloc; " links {links} lots {lots} derived {derived}")?.as_str())?;
-        text.push_str(format!(in alloc; " untied {untied} left {left}\n")?.as_str())?;
+        text.push_str(format!(in alloc;
+            " untied {untied} parted {parted} left {left}\n"
+        )?.as_str())?;
         Ok(text)
     }
 
@@ -93,35 +117,53 @@ impl Account {
     /// Where memory runs out.
     pub fn json(self, alloc: Global) -> Result<String, AllocError> {
         let account =
-            json!(in alloc; {"derived": self.derived, "events": self.events, "left": self.left, "links": self.links, "lots": self.lots, "untied": self.untied, "written": self.written})?;
+            json!(in alloc; {"derived": self.derived, "events": self.events, "left": self.left, "links": self.links, "lots": self.lots, "parted": self.parted, "untied": self.untied, "written": self.written})?;
         let mut line = json!(in alloc; {"account": account})?.to_string(alloc)?;
         line.push('\n')?;
         Ok(line)
     }
 
-    /// With a document more, that had so many quantities, events, events with units that are links now, and events with
-    /// too many lots, as it was written.
+    /// With a document more, that had so many quantities, events, events with units that are links now, events with too
+    /// many lots, and events that become parts, as it is before they do.
     pub(crate) fn with(
         self,
         had: u64,
         came: u64,
         linked: u64,
         untied: u64,
+        parted: u64,
         document: &Value,
     ) -> Account
-        ensures { result ≡ with_document self had came linked untied (view document.now) }
+        ensures { result ≡ with_document self had came linked untied parted (view document.now) }
     {
-        let now = event_count(document);
+        let events = events_of(document);
+        let added = event_count(document).saturating_sub(came);
+        let moved = had.saturating_sub(quantities(document));
+        Account {
+            written: self.written,
+            events: self.events,
+            links: self.links.saturating_add(linked),
+            lots: self.lots.saturating_add(moved),
+            derived: self.derived.saturating_add(added),
+            untied: self.untied.saturating_add(untied),
+            parted: self.parted.saturating_add(parted),
+            left: self.left.saturating_add(left(events)),
+        }
+    }
+
+    /// With a line more, of this document.
+    pub(crate) fn with_line(self, document: &Value) -> Account
+        ensures { result ≡ with_line self (view document.now) }
+    {
         Account {
             written: self.written.saturating_add(1),
-            events: self.events.saturating_add(now),
-            links: self.links.saturating_add(linked),
-            lots: self
-                .lots
-                .saturating_add(had.saturating_sub(quantities(document))),
-            derived: self.derived.saturating_add(now.saturating_sub(came)),
-            untied: self.untied.saturating_add(untied),
-            left: self.left.saturating_add(left(events_of(document))),
+            events: self.events.saturating_add(event_count(document)),
+            links: self.links,
+            lots: self.lots,
+            derived: self.derived,
+            untied: self.untied,
+            parted: self.parted,
+            left: self.left,
         }
     }
 }
@@ -189,6 +231,25 @@ fn count(events: &[Value]) -> u64
     ensures { result ≡ length (in_order (items_view events.now)) }
 {
     events.len() as u64
+}
+
+/// How many events of a document become parts, where it is parted.
+pub(crate) fn parted_if(document: &Value, parts: bool) -> u64
+    ensures { result ≡ parted_if parts (view document.now) }
+{
+    if parts {
+        parted(events_of(document))
+    } else {
+        0
+    }
+}
+
+/// How many of these events have parts.
+#[tactic(auto, using(event_json::proofs::Counted::counted))]
+fn parted(events: &[Value]) -> u64
+    ensures { result ≡ count_by has_parts (in_order (items_view events.now)) }
+{
+    events.iter().filter(|event| has_parts(event)).count() as u64
 }
 
 /// How many of these events have quantities.

@@ -1,13 +1,52 @@
 //! A text as it is found, turned into lines of documents that are captured.
 
-ghost use Rattle.std.specs.Prelude.{◌≡◌, ◌≤◌, ℕ, List, [], ◌∷◌, ◌++◌, Some, Ok, Err, IfOk, OnOk, map, option_map, string_bytes};
+ghost use Rattle.std.specs.Prelude.{
+  ◌≡◌,
+  ◌≤◌,
+  ℕ,
+  List,
+  [],
+  ◌∷◌,
+  ◌++◌,
+  Some,
+  Ok,
+  Err,
+  IfOk,
+  OnOk,
+  map,
+  option_map,
+  string_bytes,
+};
 ghost use Rattle.std.specs.List.{enumerate_from};
+ghost use Rattle.serde_json.specs.Data.{Data};
 ghost use Rattle.serde_json.specs.View.{view};
-ghost use Rattle.document_convert.specs.Converted.{AreConverted, IsConverted, IsLineOf, linked_if, lotted_if};
-ghost use Rattle.document_convert.specs.Texts.{Piece, begins, by_lines, first_number, line_pieces, lines_of, no_document, no_value, piece_of, pieces_at};
+ghost use Rattle.document_convert.specs.Accounts.{with_lines};
+ghost use Rattle.document_convert.specs.Converted.{
+  AreConverted,
+  AreLinesOf,
+  IsConverted,
+  IsLineOf,
+  linked_if,
+  lotted_if,
+  parts_if,
+};
+ghost use Rattle.document_convert.specs.Texts.{
+  Piece,
+  begins,
+  by_lines,
+  first_number,
+  line_pieces,
+  lines_of,
+  no_document,
+  no_value,
+  piece_of,
+  pieces_at,
+};
 
-use crate::accounts::{Account, event_count, links_of, quantities, untied_of};
+use crate::accounts::{Account, event_count, links_of, parted_if, quantities, untied_of};
+use crate::document_parts::{alone, in_parts};
 use crate::documents::documents_in;
+use crate::light_parts::is_light_document;
 use crate::linked::document_with_links;
 use crate::lotted::document_with_lots;
 use crate::texts::{is_blank, lines_of, unmarked, value_of};
@@ -46,7 +85,13 @@ pub struct Converted {
 /// Turns a text as it is found into documents that are captured, one a line: each as
 /// [`document_in`](crate::document_in) finds it, and where it is asked for with its units as links, as
 /// [`document_with_links`](crate::document_with_links) has it, and then with its lots, as
-/// [`document_with_lots`](crate::document_with_lots) has it.
+/// [`document_with_lots`](crate::document_with_lots) has it; and then in the documents of which a capture takes the
+/// lists, as [`in_parts`](crate::in_parts) has it.
+///
+/// A document of which the parts would repeat much stays as it is: one with an event that has parts, where what stands
+/// beside its long lists weighs over 10,000, or where it is a transformation without an identifier that has over 10
+/// parts; and one that becomes several, where what stands beside its body weighs over 10,000. A weight is the bytes of
+/// the texts and of the members' names, and one for each value.
 ///
 /// The text is one JSON value, or else has one in each line, where its first line that isn't blank is one; a byte order
 /// mark may stand before it. A value is a document, or an array of some. What is none of this is refused, and keeps out
@@ -58,15 +103,18 @@ pub struct Converted {
 /// # Errors
 /// Where memory runs out.
 pub fn convert(alloc: Global, text: &[u8], ways: Conversion) -> Result<Converted, AllocError>
-    // The lines are those of the documents of the text, one for each, in order, and nothing else: the text is one
-    // value, or has one in each line that isn't blank, where the first of them is one. A line is JSON without a space,
-    // and is read back as its document's value. What is no document is told, in order, by its line and its place in its
-    // array.
+    // The lines are those of the documents of the text, in order, and nothing else: one for each, or one for each 1,000
+    // events of one with more, where an event with a list of more than 1,000 items counts as its parts. One whose parts
+    // would repeat much is one line as it is: where what stands beside a long list, or beside the body of what becomes
+    // several documents, weighs over 10,000, or a transformation without an identifier has over 10 parts. The text is
+    // one value, or has one in each line that isn't blank, where the first of them is one. A line is JSON without a
+    // space, and is read back as its document's value. What is no document is told, in order, by its line and its place
+    // in its array.
     // It is counted how many documents and events were written, of how many events units became links, how many
-    // quantities became lots, how many events were derived, how many have too many lots for that, and how many still
-    // have quantities.
-    // Not covered: a document that nests more than 127 deep isn't read back; how the account is printed, and added up
-    // over several texts.
+    // quantities became lots, how many events were derived, how many have too many lots for that, how many became
+    // parts, and how many still have quantities.
+    // Not covered: a document that nests more than 127 deep isn't read back; a capture refuses one with long lists that
+    // stays as it is; how the account is printed, and added up over several texts.
     ensures { IfOk result (IsConverted ways text.now) }
 {
     let text = unmarked(text);
@@ -152,6 +200,17 @@ fn lotted_if(alloc: Global, document: Value, lots: bool) -> Result<Value, AllocE
         document_with_lots(alloc, document)
     } else {
         Ok(document)
+    }
+}
+
+/// A document in parts, or as it is.
+fn parts_if(alloc: Global, document: Value, parts: bool) -> Result<Vec<Value>, AllocError>
+    ensures { IfOk result (λ found. map view found.items ≡ parts_if parts (view document)) }
+{
+    if parts {
+        in_parts(alloc, document)
+    } else {
+        alone(alloc, document)
     }
 }
 
@@ -269,9 +328,27 @@ impl Converted {
         let links = links_of(alloc, &document, ways.links)?;
         let linked = linked_if(alloc, document, ways.links)?;
         let untied = untied_of(alloc, &linked, ways.lots)?;
-        let written = lotted_if(alloc, linked, ways.lots)?;
-        push_text(alloc, &mut self.lines, &written)?;
-        self.account = self.account.with(had, came, links, untied, &written);
+        let asked = lotted_if(alloc, linked, ways.lots)?;
+        let light = is_light_document(alloc, &asked)?;
+        let parted = parted_if(&asked, light);
+        self.account = self.account.with(had, came, links, untied, parted, &asked);
+        let documents = parts_if(alloc, asked, light)?;
+        self.push_lines(alloc, documents)?;
+        Ok(())
+    }
+
+    /// Adds a line for each of these documents.
+    fn push_lines(&mut self, alloc: Global, documents: Vec<Value>) -> Result<(), AllocError>
+        ensures lines { OnOk result ((ds : List Data) → AreLinesOf ds (string_bytes self.old.lines)
+            → AreLinesOf (ds ++ map view documents.items) (string_bytes self.new.lines)) }
+        ensures refused { OnOk result (self.new.refused ≡ self.old.refused) }
+        ensures account { OnOk result
+            (self.new.account ≡ with_lines self.old.account (map view documents.items)) }
+    {
+        for document in documents {
+            push_text(alloc, &mut self.lines, &document)?;
+            self.account = self.account.with_line(&document);
+        }
         Ok(())
     }
 }

@@ -60,7 +60,7 @@ fn typed_events(alloc: Global, list: &[Value]) -> Result<Vec<Value>, AllocError>
 }
 
 /// The body of a document of these events.
-fn body_of(alloc: Global, events: Vec<Value>) -> Result<Value, AllocError>
+pub(crate) fn body_of(alloc: Global, events: Vec<Value>) -> Result<Value, AllocError>
     ensures { IfOk result (λ v. view v ≡ body_of (map view events.items)) }
 {
     let list = Value::Array(events);

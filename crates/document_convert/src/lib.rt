@@ -4,22 +4,30 @@
 
 mod accounts;
 mod converting;
+mod document_parts;
 mod documents;
 mod event_lists;
 pub mod laws;
+mod light_parts;
 mod linked;
 mod links;
 mod lot_events;
 mod lots;
 mod lotted;
+mod part_ids;
+pub mod part_laws;
+mod parted;
 mod quantities;
 mod respelling;
 mod texts;
+mod thousands;
 mod types;
 mod unit_lots;
+mod weights;
 
 pub use accounts::Account;
 pub use converting::{Conversion, Converted, Refused, convert};
+pub use document_parts::in_parts;
 pub use documents::{document_in, documents_in};
 pub use linked::document_with_links;
 pub use links::link_of;

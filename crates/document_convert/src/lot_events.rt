@@ -17,7 +17,7 @@ use serde_json::{Value, json};
 use std::alloc::{AllocError, Global};
 
 /// The most bytes of an identifier.
-const MOST_BYTES: usize = 512;
+pub(crate) const MOST_BYTES: usize = 512;
 
 /// An array of these texts.
 fn array_of(alloc: Global, texts: &[&str]) -> Result<Value, AllocError>
@@ -51,7 +51,7 @@ fn with_own(alloc: Global, event: Value, other: &Value, name: &str) -> Result<Va
 }
 
 /// The identifier of an event, where it is a text.
-fn id_of(event: &Value) -> Option<&str>
+pub(crate) fn id_of(event: &Value) -> Option<&str>
     ensures { option_map (λ t. t.now) result
         ≡ option_and_then as_str (member_named (codes "eventID") (view event.now)) }
 {

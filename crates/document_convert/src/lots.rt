@@ -1,48 +1,16 @@
-//! Lots, and the one spelling of each.
+//! Which lot a text spells.
 
-ghost use Rattle.std.specs.Prelude.{◌≡◌, ◌++◌, IfOk, IsTrue, OnOk, codes, option_and_then, option_map, string_bytes};
+ghost use Rattle.std.specs.Prelude.{◌≡◌, ◌++◌, IfOk, IsTrue, codes, option_and_then, option_map, string_bytes};
 ghost use Rattle.std.specs.List.{list_all};
 ghost use Rattle.epc_core.specs.Items.{parted};
 ghost use Rattle.epc_core.specs.Numbers.{is_digit};
 ghost use Rattle.epc_core.specs.Reading.{reading};
-ghost use Rattle.document_convert.specs.Lots.{before, before_query, behind_key, behind_scheme, element_parts, escape, escape_byte, is_kept, link_parts, lot_of, lot_of_key, lot_read, lot_text, past_variant, path_parts, unit_of, unit_of_element, unit_of_link, unit_of_parts, unit_of_uri, zeros};
+ghost use Rattle.document_convert.specs.Lots.{before, before_query, behind_key, behind_scheme, element_parts, link_parts, lot_of, lot_of_key, lot_read, past_variant, path_parts, unit_of, unit_of_element, unit_of_link, unit_of_parts, unit_of_uri, zeros};
+ghost use Rattle.item_spellings.specs.Lots.{lot_text};
 
 use epc_core::{Epc, EpcFault, EpcForm};
-use percent_encoding::percent_encode_byte;
+use item_spellings::{lot_text, push_lot_number};
 use std::alloc::{AllocError, Global};
-
-/// Whether a byte of a lot number stands for itself in a link: a letter, a digit, `-`, `.` or `_`.
-fn is_kept(b: u8) -> bool
-    ensures { result ≡ is_kept b }
-{
-    b.is_ascii_uppercase()
-        || b.is_ascii_lowercase()
-        || b.is_ascii_digit()
-        || b == b'-'
-        || b == b'.'
-        || b == b'_'
-}
-
-/// Appends a byte of a lot number.
-fn push_byte(text: &mut String, b: u8) -> Result<(), AllocError>
-    ensures { OnOk result (string_bytes text.new ≡ string_bytes text.old ++ escape_byte b) }
-{
-    if is_kept(b) {
-        text.push(char::from(b))
-    } else {
-        text.push_str(percent_encode_byte(b))
-    }
-}
-
-/// Appends a lot number.
-fn push_number(text: &mut String, number: &[u8]) -> Result<(), AllocError>
-    ensures { OnOk result (string_bytes text.new ≡ string_bytes text.old ++ escape number.now) }
-{
-    for b in number {
-        push_byte(text, *b)?;
-    }
-    Ok(())
-}
 
 /// The digits of a GTIN as a text.
 pub(crate) fn digits_text(alloc: Global, digits: &[u8]) -> Result<String, AllocError>
@@ -53,18 +21,6 @@ pub(crate) fn digits_text(alloc: Global, digits: &[u8]) -> Result<String, AllocE
     for digit in digits {
         text.push(char::from(*digit))?;
     }
-    Ok(text)
-}
-
-/// The one spelling of a lot.
-pub(crate) fn lot_text(alloc: Global, gtin: &str, number: &[u8]) -> Result<String, AllocError>
-    ensures { IfOk result (λ text. string_bytes text ≡ lot_text gtin.now number.now) }
-{
-    let mut text = String::new(alloc);
-    text.push_str("https://id.gs1.org/01/")?;
-    text.push_str(gtin)?;
-    text.push_str("/10/")?;
-    push_number(&mut text, number)?;
     Ok(text)
 }
 
@@ -251,7 +207,7 @@ fn unit_of_element(alloc: Global, text: &str) -> Result<Option<String>, AllocErr
     unit.push_str("https://id.gs1.org/01/")?;
     unit.push_str(gtin)?;
     unit.push_str("/21/")?;
-    push_number(&mut unit, lot.as_bytes())?;
+    push_lot_number(&mut unit, lot.as_bytes())?;
     Ok(Some(unit))
 }
 

@@ -78,7 +78,7 @@ pub(crate) fn list_of(
 }
 
 /// Copies of these values.
-fn copies(alloc: Global, list: &[Value]) -> Result<Vec<Value>, AllocError>
+pub(crate) fn copies(alloc: Global, list: &[Value]) -> Result<Vec<Value>, AllocError>
     ensures { IfOk result (λ copies. map view copies.items ≡ map view list.now) }
 {
     let mut copies = Vec::new(alloc);
@@ -109,7 +109,7 @@ pub(crate) fn and_texts(mut list: Vec<Value>, texts: Vec<String>) -> Result<Valu
 }
 
 /// A value without this member.
-fn without_member(value: Value, name: &str) -> Value
+pub(crate) fn without_member(value: Value, name: &str) -> Value
     ensures { view result ≡ without_member name.now (view value) }
 {
     match value {

@@ -10,9 +10,10 @@ ghost use Rattle.epc_core.specs.Serials.{is_serial, is_serial_byte};
 ghost use Rattle.document_convert.specs.SeenLots.{seen_lots, seen_units};
 ghost use Rattle.document_convert.specs.UnitLots.{distinct_from, gtin_of, gtin_of_key, gtin_read, gtins_of, is_untied, lot_with, lots_numbered, named_by, named_in, numbers_named, text_or_texts, texts_in, texts_of, texts_with, unit_in, unit_lots, units_at, units_by, units_of, with_new};
 
-use crate::lots::{digits_text, lot_text};
+use crate::lots::digits_text;
 use crate::types::{member_named, type_text};
 use epc_core::{Epc, EpcFault, EpcForm};
+use item_spellings::lot_text;
 use serde_json::Value;
 use std::alloc::{AllocError, Global};
 

@@ -12,8 +12,7 @@ use Rattle.recall_outcomes.specs.declared.outcomes.Outcome.TheVariants as outcom
 use Rattle.recall_outcomes.specs.declared.outcomes.Ways.{Ways}
 use Rattle.recall_text.specs.Words.{recall_text}
 use Rattle.recall_text.specs.Writing.{AppendsBeginning}
-use Rattle.report_core.specs.declared.outside.OutsideShipment.{OutsideShipment}
-use Rattle.report_forms.specs.Accounts.{Account, back_account, report_account, trace_account}
+use Rattle.report_forms.specs.Accounts.{Account, OutsidePart, back_account, report_account, trace_account}
 use Rattle.report_forms.specs.declared.accounts.Title.{Title}
 use Rattle.report_forms.specs.declared.accounts.Title.TheVariants as titles
 use Rattle.serde_json.specs.Data.{Data, Items, array, boolean, string}
@@ -119,7 +118,7 @@ five p a b c d e l m n o x y = simp append_assoc refl
 three : (p b c e m n x y : List ℕ) → (p ++ (b ++ (m ++ (c ++ (n ++ (e ++ x)))))) ++ y ≡ ((p ++ b) ++ m) ++ (c ++ ((n ++ e) ++ (x ++ y)))
 three p b c e m n x y = simp append_assoc refl
 
-titled_line : (sites : List Site) (title : Title) (root : Pair) (outside : List OutsideShipment) (origins : List Pair) (ds : Items)
+titled_line : (sites : List Site) (title : Title) (root : Pair) (outside : List OutsidePart) (origins : List Pair) (ds : Items)
     → json_line (titled_json sites title root outside origins (array ds)) ≡ titled_head sites title outside origins ++ (items_text false ds ++ titled_tail sites title root)
 unfolding escape_byte
 titled_line sites (titles.Recall r ended) root outside origins ds =
@@ -155,8 +154,8 @@ some_both {X} {Y} a b x y B e h =
 
 -- a report and a trace have the value of their account
 pub account_value : (sites : List Site) (o : Outcome) (a : Account) (ways : Ways) → account_of o ≡ Some (a, ways) → outcome_json sites o ≡ account_json sites ways a ∷ []
-account_value sites (outcomes.Reported r report w events) a ways e = some_both (report_account r report (told_events events)) a w ways (λ b v. account_json sites w (report_account r report (told_events events)) ∷ [] ≡ account_json sites v b ∷ []) e refl
-account_value sites (outcomes.Traced trace w events) a ways e = some_both (trace_account trace (told_events events)) a w ways (λ b v. account_json sites w (trace_account trace (told_events events)) ∷ [] ≡ account_json sites v b ∷ []) e refl
+account_value sites (outcomes.Reported r report w events) a ways e = some_both (report_account r report events) a w ways (λ b v. account_json sites w (report_account r report events) ∷ [] ≡ account_json sites v b ∷ []) e refl
+account_value sites (outcomes.Traced trace w events) a ways e = some_both (trace_account trace events) a w ways (λ b v. account_json sites w (trace_account trace events) ∷ [] ≡ account_json sites v b ∷ []) e refl
 account_value sites (outcomes.TracedBack trace w events) a ways e = some_both (back_account trace (told_events events)) a w ways (λ b v. account_json sites w (back_account trace (told_events events)) ∷ [] ≡ account_json sites v b ∷ []) e refl
 account_value sites o a ways e = cc
 

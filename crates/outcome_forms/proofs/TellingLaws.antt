@@ -40,6 +40,7 @@ use Rattle.recall_text.specs.declared.site_lists.LineRefusal.TheVariants.{BadLin
 use Rattle.report_core.specs.declared.audits.Verdict.{Verdict}
 use Rattle.report_core.specs.declared.audits.Verdict.TheVariants.{Equal, Differs}
 use Rattle.report_core.specs.declared.outside.OutsideShipment.{OutsideShipment}
+use Rattle.report_core.specs.declared.outside_events.OutsideEvent.{OutsideEvent}
 use Rattle.report_core.specs.declared.trail_events.CapturedEvent.{CapturedEvent}
 use Rattle.report_core.specs.declared.trail_events.StepEvents.{StepEvents}
 use Rattle.report_core.specs.declared.trail_events.StepEvents.TheVariants as made
@@ -51,10 +52,10 @@ use Rattle.site_core.specs.declared.outcomes.Refusal.{Refusal}
 use Rattle.site_core.specs.declared.outcomes.Refusal.TheVariants as steps
 use Rattle.site_recovery.specs.declared.checking.Misfit.{Misfit}
 use Rattle.trace_core.specs.declared.pairs.Pair.{Pair}
-use Rattle.outcome_forms.specs.Json.{Shown, whole, before, behind, account_json, audited_json, beside_json, covered_json, detail_json, effects_json, engaged_json, event_json, gaps_json, known_json, line_members, list_of, misfit_json, outcome_json, outside_json, packed_json, pair_json, part_json, ran_json, shown_members, shown_way, standing_json, status_json, step_json, step_members, text_or_null, titled_json, trail_json, unseen_json, used_json, verdict_json, waiting_json, why_json, with_events}
+use Rattle.outcome_forms.specs.Json.{Shown, whole, before, behind, account_json, audited_json, beside_json, covered_json, detail_json, effects_json, engaged_json, event_json, gaps_json, known_json, line_members, list_of, misfit_json, outcome_json, outside_json, packed_json, pair_json, part_json, ran_json, shown_members, shown_outside, shown_way, standing_json, status_json, step_json, step_members, text_or_null, titled_json, trail_json, unseen_json, used_json, verdict_json, waiting_json, why_json, with_events}
 use Rattle.outcome_forms.specs.Telling.{AccountIsOf, AreSameGaps, AuditedIsOf, DetailIsOf, EffectsAreOf, EndsSo, GapIsOf, GapsAreOf, MessageIsOf, OutsideIsOf, PairIsOf, PartIsOf, RecallIsOf, SomeIsOf, StandingIsOf, StepIsOf, TellsAccount, TellsWhy, TitleIsOf, UnseenIsOf, UsedIsOf, ValuesTellKinds, ValuesTellOutcomes, VerdictIsOf, WaitingIsOf, WhyIsOf, kind_of, shown_part}
 use Rattle.trace_core.specs.Trails.{before_last}
-use Rattle.report_forms.specs.Accounts.{Account, Part, way_pairs}
+use Rattle.report_forms.specs.Accounts.{Account, OutsidePart, Part, way_pairs}
 use Rattle.report_forms.specs.declared.accounts.Title.{Title}
 use Rattle.report_forms.specs.declared.accounts.Title.TheVariants as titles
 use Rattle.report_forms.specs.declared.accounts.Way.{Way}
@@ -311,9 +312,12 @@ abbrev headed : Option (List StepEvents) → Members → Members
 headed None members = members
 headed (Some steps) members = member (codes "events") (list_of step_json steps) members
 
+abbrev begins_with : List ℕ → Members → Bool
+begins_with first no_members = false
+begins_with first (member name d ms) = bytes_eq name first
+
 abbrev begins_with_events : Members → Bool
-begins_with_events no_members = false
-begins_with_events (member name d ms) = bytes_eq name (codes "events")
+begins_with_events ms = begins_with (codes "events") ms
 
 abbrev others_of : Members → Members
 others_of no_members = no_members
@@ -361,12 +365,30 @@ parts_tell sites are ways other ps qs hp hq e = cc
 
 -- ---- what left the traced sites
 
-outside_tells : (sites : List Site) → AreSites sites → (x y : OutsideShipment) → OutsideIsOf sites x → OutsideIsOf sites y → outside_json sites x ≡ outside_json sites y → x ≡ y
-outside_tells sites are x y hx hy e =
-    let of : ℕ → List ℕ → List ℕ → OutsideShipment = λ a b c. record { site = a; item = b; destination = c } in
-    ap₂ (λ (a : ℕ) (bc : List ℕ × List ℕ). of a bc.0 bc.1) (site_tells sites are x.site y.site hx hy (ap (text_at 2) e)) (ap (λ d. (text_at 1 d, text_at 0 d)) e)
+abbrev begins_with_carrier : Data → Bool
+begins_with_carrier d = begins_with (codes "carrier") (members_in d)
 
-outsides_tell : (sites : List Site) → AreSites sites → (xs ys : List OutsideShipment) → All (OutsideIsOf sites) xs → All (OutsideIsOf sites) ys
+shown_out_tells : (sites : List Site) → AreSites sites → (x y : OutsideShipment) (t u : Option OutsideEvent) → x.site < length sites → y.site < length sites
+    → shown_outside sites x t ≡ shown_outside sites y u → (x ≡ y) × (t ≡ u)
+shown_out_tells sites are x y None None hx hy e =
+    let of : ℕ → List ℕ → List ℕ → OutsideShipment = λ a b c. record { site = a; item = b; destination = c } in
+    (ap₂ (λ (a : ℕ) (bc : List ℕ × List ℕ). of a bc.0 bc.1) (site_tells sites are x.site y.site hx hy (ap (text_at 2) e)) (ap (λ d. (text_at 1 d, text_at 0 d)) e), refl)
+shown_out_tells sites are x y (Some t) (Some u) hx hy e =
+    let of : ℕ → List ℕ → List ℕ → OutsideShipment = λ a b c. record { site = a; item = b; destination = c } in
+    let told : CapturedEvent → List ℕ → OutsideEvent = λ event carrier. record { event = event; carrier = carrier } in (
+      ap₂ (λ (a : ℕ) (bc : List ℕ × List ℕ). of a bc.0 bc.1) (site_tells sites are x.site y.site hx hy (ap (text_at 4) e)) (ap (λ d. (text_at 3 d, text_at 1 d)) e),
+      ap Some (ap₂ told (event_tells t.event u.event (ap (at 2) e)) (ap (text_at 0) e)),
+    )
+shown_out_tells sites are x y None (Some u) hx hy e = absurd (false≢true (ap begins_with_carrier e))
+shown_out_tells sites are x y (Some t) None hx hy e = absurd (false≢true (sym (ap begins_with_carrier e)))
+
+outside_tells : (sites : List Site) → AreSites sites → (x y : OutsidePart) → OutsideIsOf sites x → OutsideIsOf sites y → outside_json sites x ≡ outside_json sites y → x ≡ y
+outside_tells sites are x y hx hy e =
+    let same = shown_out_tells sites are x.shipment y.shipment x.event y.event hx hy e in
+    let of : OutsideShipment → Option OutsideEvent → OutsidePart = λ a b. record { shipment = a; event = b } in
+    ap₂ of same.0 same.1
+
+outsides_tell : (sites : List Site) → AreSites sites → (xs ys : List OutsidePart) → All (OutsideIsOf sites) xs → All (OutsideIsOf sites) ys
     → list_of (outside_json sites) xs ≡ list_of (outside_json sites) ys → xs ≡ ys
 outsides_tell sites are = listed_tell (OutsideIsOf sites) (outside_json sites) (outside_tells sites are)
 
@@ -374,32 +396,32 @@ outsides_tell sites are = listed_tell (OutsideIsOf sites) (outside_json sites) (
 
 -- the title, the root, and what stands beside the pairs
 abbrev Around : Type 0
-Around = Title × (Pair × (List OutsideShipment × List Pair))
+Around = Title × (Pair × (List OutsidePart × List Pair))
 
-abbrev around : Title → Pair → List OutsideShipment → List Pair → Around
+abbrev around : Title → Pair → List OutsidePart → List Pair → Around
 around title root outside origins = (title, (root, (outside, origins)))
 
-titled_tell : (sites : List Site) → AreSites sites → (t u : Title) (p q : Pair) (xs ys : List OutsideShipment) (os qs : List Pair) (ds es : Data)
+titled_tell : (sites : List Site) → AreSites sites → (t u : Title) (p q : Pair) (xs ys : List OutsidePart) (os qs : List Pair) (ds es : Data)
     → TitleIsOf sites t → TitleIsOf sites u → PairIsOf sites p → PairIsOf sites q → EndsSo t xs os → EndsSo u ys qs
     → All (OutsideIsOf sites) xs → All (OutsideIsOf sites) ys → All (PairIsOf sites) os → All (PairIsOf sites) qs
     → titled_json sites t p xs os ds ≡ titled_json sites u q ys qs es → (around t p xs os ≡ around u q ys qs) × (ds ≡ es)
 titled_tell sites are (titles.Recall r ended) (titles.Recall s other) p q xs ys os qs ds es ht hu hp hq none empty hx hy ho hs e =
     let title : titles.Recall r ended ≡ titles.Recall s other = ap₂ (λ (x : Recall) (b : Bool). titles.Recall x b) (recall_tells sites are r s ht hu (ap (text_at 3) e)) (ap (flag_at 0) e) in (
-      ap₂ (λ (x : Title) (y : Pair × (List OutsideShipment × List Pair)). (x, y)) title
-          (ap₂ (λ (x : Pair) (y : List OutsideShipment × List Pair). (x, y)) (pair_tells sites are p q hp hq (ap (at 4) e))
-          (ap₂ (λ (x : List OutsideShipment) (y : List Pair). (x, y)) (outsides_tell sites are xs ys hx hy (ap (at 1) e)) (none ∙ sym empty))),
+      ap₂ (λ (x : Title) (y : Pair × (List OutsidePart × List Pair)). (x, y)) title
+          (ap₂ (λ (x : Pair) (y : List OutsidePart × List Pair). (x, y)) (pair_tells sites are p q hp hq (ap (at 4) e))
+          (ap₂ (λ (x : List OutsidePart) (y : List Pair). (x, y)) (outsides_tell sites are xs ys hx hy (ap (at 1) e)) (none ∙ sym empty))),
       ap (at 2) e,
     )
 titled_tell sites are titles.Forward titles.Forward p q xs ys os qs ds es ht hu hp hq none empty hx hy ho hs e = (
-  ap (λ (y : Pair × (List OutsideShipment × List Pair)). (titles.Forward, y))
-      (ap₂ (λ (x : Pair) (y : List OutsideShipment × List Pair). (x, y)) (pair_tells sites are p q hp hq (ap (at 2) e))
-      (ap₂ (λ (x : List OutsideShipment) (y : List Pair). (x, y)) (outsides_tell sites are xs ys hx hy (ap (at 0) e)) (none ∙ sym empty))),
+  ap (λ (y : Pair × (List OutsidePart × List Pair)). (titles.Forward, y))
+      (ap₂ (λ (x : Pair) (y : List OutsidePart × List Pair). (x, y)) (pair_tells sites are p q hp hq (ap (at 2) e))
+      (ap₂ (λ (x : List OutsidePart) (y : List Pair). (x, y)) (outsides_tell sites are xs ys hx hy (ap (at 0) e)) (none ∙ sym empty))),
   ap (at 1) e,
 )
 titled_tell sites are titles.Back titles.Back p q xs ys os qs ds es ht hu hp hq none empty hx hy ho hs e = (
-  ap (λ (y : Pair × (List OutsideShipment × List Pair)). (titles.Back, y))
-      (ap₂ (λ (x : Pair) (y : List OutsideShipment × List Pair). (x, y)) (pair_tells sites are p q hp hq (ap (at 2) e))
-      (ap₂ (λ (x : List OutsideShipment) (y : List Pair). (x, y)) (none ∙ sym empty) (pairs_tell sites are os qs ho hs (ap (at 0) e)))),
+  ap (λ (y : Pair × (List OutsidePart × List Pair)). (titles.Back, y))
+      (ap₂ (λ (x : Pair) (y : List OutsidePart × List Pair). (x, y)) (pair_tells sites are p q hp hq (ap (at 2) e))
+      (ap₂ (λ (x : List OutsidePart) (y : List Pair). (x, y)) (none ∙ sym empty) (pairs_tell sites are os qs ho hs (ap (at 0) e)))),
   ap (at 1) e,
 )
 titled_tell sites are t u p q xs ys os qs ds es ht hu hp hq none empty hx hy ho hs e = absurd (let no : ⊥ = omega (arith, ap tag e) in no)
@@ -623,6 +645,7 @@ scan_fault_tells scans.NoItem scans.NoItem e = refl
 scan_fault_tells scans.NoSerial scans.NoSerial e = refl
 scan_fault_tells scans.CheckDigit scans.CheckDigit e = refl
 scan_fault_tells scans.BadSerial scans.BadSerial e = refl
+scan_fault_tells scans.BadLot scans.BadLot e = refl
 scan_fault_tells k l e = absurd (let no : ⊥ = omega (arith, ap code e) in no)
 
 doc_tells : (a b : DocFault) → a.event ≡ b.event → field_name a.field ≡ field_name b.field → kind_name a.kind ≡ kind_name b.kind → a ≡ b

@@ -18,10 +18,11 @@ use Rattle.recall_text.specs.declared.site_lists.LineRefusal.TheVariants.{BadLin
 use Rattle.report_core.specs.declared.audits.Verdict.{Verdict}
 use Rattle.report_core.specs.declared.audits.Verdict.TheVariants as verdicts
 use Rattle.report_core.specs.declared.outside.OutsideShipment.{OutsideShipment}
+use Rattle.report_core.specs.declared.outside_events.OutsideEvent.{OutsideEvent}
 use Rattle.report_core.specs.declared.trail_events.CapturedEvent.{CapturedEvent}
 use Rattle.report_core.specs.declared.trail_events.StepEvents.{StepEvents}
 use Rattle.report_core.specs.declared.trail_events.StepEvents.TheVariants as steps_of
-use Rattle.report_forms.specs.Accounts.{Account, Part, back_account, report_account, trace_account}
+use Rattle.report_forms.specs.Accounts.{Account, OutsidePart, Part, back_account, report_account, trace_account}
 use Rattle.report_forms.specs.declared.accounts.Title.{Title}
 use Rattle.report_forms.specs.declared.accounts.Title.TheVariants as titles
 use Rattle.serde_json.specs.Data.{Data, object, string}
@@ -32,7 +33,7 @@ use Rattle.site_core.specs.declared.outcomes.Refusal.{Refusal}
 use Rattle.site_core.specs.declared.outcomes.Refusal.TheVariants as steps
 use Rattle.trace_core.specs.declared.pairs.Pair.{Pair}
 use Rattle.outcome_forms.specs.Accounts.{told_events}
-use Rattle.outcome_forms.specs.Json.{Shown, whole, before, behind, account_json, audited_json, beside_json, covered_json, created_json, detail_json, effects_json, engaged_json, event_json, gaps_json, known_json, line_members, list_of, misfit_json, outcome_json, outside_json, packed_json, pair_json, part_json, ran_json, root_json, shown_members, shown_way, standing_json, status_json, step_json, step_members, text_or_null, titled_json, trail_json, unseen_json, used_json, verdict_json, waiting_json, why_json, with_events, would_json, withheld_json}
+use Rattle.outcome_forms.specs.Json.{Shown, whole, before, behind, account_json, audited_json, beside_json, covered_json, created_json, detail_json, effects_json, engaged_json, event_json, gaps_json, known_json, line_members, list_of, misfit_json, outcome_json, outside_json, packed_json, pair_json, part_json, ran_json, root_json, shown_members, shown_outside, shown_way, standing_json, status_json, step_json, step_members, text_or_null, titled_json, trail_json, unseen_json, used_json, verdict_json, waiting_json, why_json, with_events, would_json, withheld_json}
 use Rattle.outcome_forms.specs.Telling.{ValuesAreRead}
 use Rattle.outcome_forms.proofs.Reading.{IsTree, all_read, deeper, tree_free}
 
@@ -120,13 +121,17 @@ with_tree sites p (behind q) (Some steps) = (refl, (list_tree 2 step_json by_tre
 part_tree : (sites : List Site) (ways : Ways) (part : Part) → IsTree 4 (part_json sites ways part)
 part_tree sites ways part = with_tree sites part.pair (shown_way ways part.way) part.events
 
-outsides_tree : (sites : List Site) (xs : List OutsideShipment) → IsTree 5 (list_of (outside_json sites) xs)
-outsides_tree sites xs = list_tree 4 (outside_json sites) (λ x. (refl, (tt, (tt, (tt, tt))))) xs
+outside_tree : (sites : List Site) (x : OutsideShipment) (told : Option OutsideEvent) → IsTree 4 (shown_outside sites x told)
+outside_tree sites x None = (refl, (tt, (tt, (tt, tt))))
+outside_tree sites x (Some told) = (refl, (tt, (tt, (deeper 2 (event_json told.event) (deeper 1 (event_json told.event) (event_tree told.event)), (tt, (tt, tt))))))
+
+outsides_tree : (sites : List Site) (xs : List OutsidePart) → IsTree 5 (list_of (outside_json sites) xs)
+outsides_tree sites xs = list_tree 4 (outside_json sites) (λ x. outside_tree sites x.shipment x.event) xs
 
 pairs_tree : (sites : List Site) (ps : List Pair) → IsTree 5 (list_of (pair_json sites) ps)
 pairs_tree sites ps = list_tree 4 (pair_json sites) (pair_tree 3 sites) ps
 
-titled_tree : (sites : List Site) (title : Title) (root : Pair) (outside : List OutsideShipment) (origins : List Pair) (pairs : Data) → IsTree 5 pairs
+titled_tree : (sites : List Site) (title : Title) (root : Pair) (outside : List OutsidePart) (origins : List Pair) (pairs : Data) → IsTree 5 pairs
     → IsTree 6 (titled_json sites title root outside origins pairs)
 titled_tree sites (titles.Recall r ended) root outside origins pairs is = (refl, (tt, (outsides_tree sites outside, (is, (tt, (pair_tree 4 sites root, tt))))))
 titled_tree sites titles.Forward root outside origins pairs is = (refl, (outsides_tree sites outside, (is, (pair_tree 4 sites root, (tt, tt)))))
@@ -197,8 +202,8 @@ all_trees : (sites : List Site) (o : Outcome) → All (IsTree 6) (outcome_json s
 all_trees sites outcomes.Created = one_tree (created_json sites) (created_tree sites)
 all_trees sites (outcomes.Stepped done) = one_tree (effects_json sites done) (effects_tree sites done)
 all_trees sites (outcomes.Ran recalls coded) = each_tree (ran_json sites) (λ b. (refl, (tt, (tt, tt)))) recalls.items
-all_trees sites (outcomes.Reported r report ways events) = one_tree _ (account_tree sites ways (report_account r report (told_events events)))
-all_trees sites (outcomes.Traced trace ways events) = one_tree _ (account_tree sites ways (trace_account trace (told_events events)))
+all_trees sites (outcomes.Reported r report ways events) = one_tree _ (account_tree sites ways (report_account r report events))
+all_trees sites (outcomes.Traced trace ways events) = one_tree _ (account_tree sites ways (trace_account trace events))
 all_trees sites (outcomes.TracedBack trace ways events) = one_tree _ (account_tree sites ways (back_account trace (told_events events)))
 all_trees sites (outcomes.Standing recalls coded) = each_tree (status_json sites) (status_tree sites) recalls.items
 all_trees sites (outcomes.Waiting detail coded) = one_tree (detail_json sites detail) (detail_tree sites detail)
@@ -227,7 +232,7 @@ outcome_free sites o = all_free (outcome_json sites o) (all_trees sites o)
 pub part_free : (sites : List Site) (ways : Ways) (part : Part) → has_float (part_json sites ways part) ≡ false
 part_free sites ways part = tree_free 4 (part_json sites ways part) (part_tree sites ways part)
 
-pub outside_free : (sites : List Site) (xs : List OutsideShipment) → has_float (list_of (outside_json sites) xs) ≡ false
+pub outside_free : (sites : List Site) (xs : List OutsidePart) → has_float (list_of (outside_json sites) xs) ≡ false
 outside_free sites xs = tree_free 5 (list_of (outside_json sites) xs) (outsides_tree sites xs)
 
 pub pairs_free : (sites : List Site) (ps : List Pair) → has_float (list_of (pair_json sites) ps) ≡ false

@@ -3,8 +3,7 @@ use Rattle.std.specs.Prelude.{ℕ, Bool, List, ◌++◌, codes}
 use Rattle.event_json.specs.Sites.{Site}
 use Rattle.frame_core.specs.Numbers.{Recall}
 use Rattle.recall_text.specs.Words.{recall_text}
-use Rattle.report_core.specs.declared.outside.OutsideShipment.{OutsideShipment}
-use Rattle.report_forms.specs.Accounts.{Account}
+use Rattle.report_forms.specs.Accounts.{Account, OutsidePart}
 use Rattle.report_forms.specs.declared.accounts.Title.{Title}
 use Rattle.report_forms.specs.declared.accounts.Title.TheVariants as titles
 use Rattle.serde_json.specs.Data.{boolean, string}
@@ -12,17 +11,17 @@ use Rattle.serde_json.specs.Written.{compact_text}
 use Rattle.trace_core.specs.declared.pairs.Pair.{Pair}
 use Rattle.outcome_forms.specs.Json.{list_of, outside_json, pair_json}
 
-abbrev pub report_head : List Site → Bool → List OutsideShipment → List ℕ
+abbrev pub report_head : List Site → Bool → List OutsidePart → List ℕ
 report_head sites ended outside =
     codes "{\"ended\":" ++ compact_text (boolean ended) ++ codes ",\"outside\":" ++ compact_text (list_of (outside_json sites) outside) ++ codes ",\"pairs\":["
 
-abbrev pub forward_head : List Site → List OutsideShipment → List ℕ
+abbrev pub forward_head : List Site → List OutsidePart → List ℕ
 forward_head sites outside = codes "{\"outside\":" ++ compact_text (list_of (outside_json sites) outside) ++ codes ",\"pairs\":["
 
 abbrev pub back_head : List Site → List Pair → List ℕ
 back_head sites origins = codes "{\"origins\":" ++ compact_text (list_of (pair_json sites) origins) ++ codes ",\"pairs\":["
 
-abbrev pub titled_head : List Site → Title → List OutsideShipment → List Pair → List ℕ
+abbrev pub titled_head : List Site → Title → List OutsidePart → List Pair → List ℕ
 titled_head sites (titles.Recall r ended) outside origins = report_head sites ended outside
 titled_head sites titles.Forward outside origins = forward_head sites outside
 titled_head sites titles.Back outside origins = back_head sites origins

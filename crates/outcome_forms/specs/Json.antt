@@ -19,6 +19,7 @@ use Rattle.report_core.specs.declared.trail_events.CapturedEvent.{CapturedEvent}
 use Rattle.report_core.specs.declared.trail_events.StepEvents.{StepEvents}
 use Rattle.report_core.specs.declared.trail_events.StepEvents.TheVariants.{Shipped, Made}
 use Rattle.report_core.specs.declared.outside.OutsideShipment.{OutsideShipment}
+use Rattle.report_core.specs.declared.outside_events.OutsideEvent.{OutsideEvent}
 use Rattle.recall_text.specs.Words.{name_at, recall_text, message_text}
 use Rattle.recall_text.specs.declared.site_lists.LineRefusal.{LineRefusal}
 use Rattle.recall_text.specs.declared.site_lists.LineRefusal.TheVariants.{BadLine, BadSite}
@@ -31,7 +32,7 @@ use Rattle.site_core.specs.declared.outcomes.Refusal.{Refusal}
 use Rattle.site_core.specs.declared.outcomes.Refusal.TheVariants as steps
 use Rattle.site_recovery.specs.declared.checking.Misfit.{Misfit}
 use Rattle.trace_core.specs.declared.pairs.Pair.{Pair}
-use Rattle.report_forms.specs.Accounts.{Account, Part, back_account, report_account, trace_account, way_beside, way_pairs}
+use Rattle.report_forms.specs.Accounts.{Account, OutsidePart, Part, back_account, report_account, trace_account, way_beside, way_pairs}
 use Rattle.report_forms.specs.declared.accounts.Title.{Title}
 use Rattle.report_forms.specs.declared.accounts.Title.TheVariants as titles
 use Rattle.report_forms.specs.declared.accounts.Way.{Way}
@@ -155,12 +156,19 @@ shown_members sites p (behind q) = pair_members sites p (member (codes "to") (be
 abbrev pub part_json : List Site → Ways → Part → Data
 part_json sites ways part = object (with_events part.events (shown_members sites part.pair (shown_way ways part.way)))
 
-abbrev pub outside_json : List Site → OutsideShipment → Data
-outside_json sites x =
+-- a shipment out of the traced sites, with its event and what the item left with, where they are told
+abbrev pub shown_outside : List Site → OutsideShipment → Option OutsideEvent → Data
+shown_outside sites x None =
     object (text_at (codes "destination") x.destination (text_at (codes "item") x.item (text_at (codes "site") (name_at sites x.site) no_members)))
+shown_outside sites x (Some told) =
+    object (text_at (codes "carrier") told.carrier (text_at (codes "destination") x.destination (member (codes "event") (event_json told.event)
+    (text_at (codes "item") x.item (text_at (codes "site") (name_at sites x.site) no_members)))))
+
+abbrev pub outside_json : List Site → OutsidePart → Data
+outside_json sites x = shown_outside sites x.shipment x.event
 
 -- a report or a trace of these parts
-abbrev pub titled_json : List Site → Title → Pair → List OutsideShipment → List Pair → Data → Data
+abbrev pub titled_json : List Site → Title → Pair → List OutsidePart → List Pair → Data → Data
 titled_json sites (titles.Recall r ended) root outside origins pairs =
     object (flag_at (codes "ended") ended (member (codes "outside") (list_of (outside_json sites) outside) (member (codes "pairs") pairs
     (text_at (codes "recall") (recall_text sites r) (member (codes "root") (pair_json sites root) no_members)))))
@@ -324,8 +332,8 @@ abbrev pub outcome_json : List Site → Outcome → List Data
 outcome_json sites outcomes.Created = created_json sites ∷ []
 outcome_json sites (outcomes.Stepped effects) = effects_json sites effects ∷ []
 outcome_json sites (outcomes.Ran recalls coded) = map (ran_json sites) recalls.items
-outcome_json sites (outcomes.Reported r report ways events) = account_json sites ways (report_account r report (told_events events)) ∷ []
-outcome_json sites (outcomes.Traced trace ways events) = account_json sites ways (trace_account trace (told_events events)) ∷ []
+outcome_json sites (outcomes.Reported r report ways events) = account_json sites ways (report_account r report events) ∷ []
+outcome_json sites (outcomes.Traced trace ways events) = account_json sites ways (trace_account trace events) ∷ []
 outcome_json sites (outcomes.TracedBack trace ways events) = account_json sites ways (back_account trace (told_events events)) ∷ []
 outcome_json sites (outcomes.Standing recalls coded) = map (status_json sites) recalls.items
 outcome_json sites (outcomes.Waiting detail coded) = detail_json sites detail ∷ []

@@ -16,7 +16,6 @@ use Rattle.query_core.specs.declared.recalls.WaitingMessage.{WaitingMessage}
 use Rattle.report_core.specs.declared.audits.Verdict.{Verdict}
 use Rattle.report_core.specs.declared.audits.Verdict.TheVariants.{Equal, Differs}
 use Rattle.report_core.specs.declared.trail_events.StepEvents.{StepEvents}
-use Rattle.report_core.specs.declared.outside.OutsideShipment.{OutsideShipment}
 use Rattle.serde_json.specs.Data.{Data, Num, unsigned, negative, float, null, boolean, number, string, array, object, Items, no_items, item, Members, member, no_members}
 use Rattle.serde_json.specs.Read.{read}
 use Rattle.serde_json.specs.Written.{compact_text}
@@ -27,7 +26,7 @@ use Rattle.site_core.specs.declared.outcomes.Refusal.TheVariants as steps
 use Rattle.site_recovery.specs.declared.checking.Misfit.{Misfit}
 use Rattle.trace_core.specs.declared.pairs.Pair.{Pair}
 use Rattle.outcome_forms.specs.Json.{Shown, account_json, audited_json, covered_json, detail_json, effects_json, gaps_json, json_lines, known_json, misfit_json, outcome_json, ran_json, shown_way, status_json, why_json, would_json}
-use Rattle.report_forms.specs.Accounts.{Account, Part, way_pairs}
+use Rattle.report_forms.specs.Accounts.{Account, OutsidePart, Part, way_pairs}
 use Rattle.report_forms.specs.declared.accounts.Title.{Title}
 use Rattle.report_forms.specs.declared.accounts.Title.TheVariants as titles
 use Rattle.recall_outcomes.specs.declared.outcomes.AuditedRecall.{AuditedRecall}
@@ -109,8 +108,8 @@ MessageIsOf sites m = (m.site < length sites) × (m.number < 2 ^ 64)
 abbrev pub PairIsOf : List Site → Pair → Type 0
 PairIsOf sites p = p.site < length sites
 
-abbrev pub OutsideIsOf : List Site → OutsideShipment → Type 0
-OutsideIsOf sites x = x.site < length sites
+abbrev pub OutsideIsOf : List Site → OutsidePart → Type 0
+OutsideIsOf sites x = x.shipment.site < length sites
 
 abbrev pub SomeIsOf : {X : Type 0} → (X → Type 0) → Option X → Type 0
 SomeIsOf IsOf None = ⊤
@@ -177,7 +176,7 @@ abbrev pub PartIsOf : List Site → Part → Type 0
 PartIsOf sites p = PairIsOf sites p.pair × SomeIsOf (All (PairIsOf sites)) (way_pairs p.way)
 
 -- a trace back has origins, and any other account what left
-abbrev pub EndsSo : Title → List OutsideShipment → List Pair → Type 0
+abbrev pub EndsSo : Title → List OutsidePart → List Pair → Type 0
 EndsSo titles.Back outside origins = outside ≡ []
 EndsSo other outside origins = origins ≡ []
 

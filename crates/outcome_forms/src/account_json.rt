@@ -8,13 +8,13 @@ ghost use Rattle.report_forms.specs.Accounts.{part_of, way_beside, way_pairs};
 ghost use Rattle.outcome_forms.specs.AccountTexts.{account_head, account_tail, back_head, forward_head, report_head, report_tail, trace_tail};
 ghost use Rattle.outcome_forms.specs.Json.{before, behind, beside_json, list_of, part_json, shown_members, shown_way, trail_json, whole};
 
+use crate::outside_json::outside_text;
 use crate::step_json::put_events;
 use crate::values::{ToJson, array, values};
 use event_json::Sites;
 use frame_core::RecallId;
 use recall_outcomes::Ways;
 use recall_text::telling::{name_of, recall_text};
-use report_core::OutsideShipment;
 use report_forms::{Account, Part, Title, Way};
 use serde_json::{Value, json};
 use std::alloc::{AllocError, Global};
@@ -29,18 +29,6 @@ impl ToJson for Pair {
         let site = name_of(sites, self.site);
         let item = self.item.key(alloc)?;
         json!(in alloc; {"item": item.as_str(), "site": site})
-    }
-}
-
-impl ToJson for OutsideShipment {
-    ghost use Rattle.outcome_forms.specs.Json.{outside_json};
-
-    ghost value = { outside_json };
-
-    fn json(&self, alloc: Global, sites: &Sites) -> Result<Value, AllocError> {
-        let site = name_of(sites, self.site);
-        let item = self.item.key(alloc)?;
-        json!(in alloc; {"destination": self.destination.as_str(), "item": item.as_str(), "site": site})
     }
 }
 
@@ -153,22 +141,22 @@ pub(crate) fn account_head(
     ensures { IfOk result (λ t. string_bytes t ≡ account_head sites.now account.now) }
 {
     match account.title() {
-        Title::Recall { recall: _, ended } => report_head(alloc, sites, ended, account.outside()),
-        Title::Forward => forward_head(alloc, sites, account.outside()),
+        Title::Recall { recall: _, ended } => report_head(alloc, sites, ended, account),
+        Title::Forward => forward_head(alloc, sites, account),
         Title::Back => back_head(alloc, sites, account.origins()),
     }
 }
 
-#[tactic(auto, using(crate::proofs::Trees::outside_free))]
 fn report_head(
     alloc: Global,
     sites: &Sites,
     ended: bool,
-    outside: &[OutsideShipment],
+    account: &Account<'_>,
 ) -> Result<String, AllocError>
-    ensures { IfOk result (λ t. string_bytes t ≡ report_head sites.now ended outside.now) }
+    ensures { IfOk result (λ t. string_bytes t
+        ≡ report_head sites.now ended account.now.outside) }
 {
-    let outside = list_text(alloc, sites, outside)?;
+    let outside = outside_text(alloc, sites, account)?;
     let mut text = String::from_str(alloc, "{\"ended\":")?;
     text.push_str(flag_text(ended))?;
     text.push_str(",\"outside\":")?;
@@ -177,15 +165,10 @@ fn report_head(
     Ok(text)
 }
 
-#[tactic(auto, using(crate::proofs::Trees::outside_free))]
-fn forward_head(
-    alloc: Global,
-    sites: &Sites,
-    outside: &[OutsideShipment],
-) -> Result<String, AllocError>
-    ensures { IfOk result (λ t. string_bytes t ≡ forward_head sites.now outside.now) }
+fn forward_head(alloc: Global, sites: &Sites, account: &Account<'_>) -> Result<String, AllocError>
+    ensures { IfOk result (λ t. string_bytes t ≡ forward_head sites.now account.now.outside) }
 {
-    let outside = list_text(alloc, sites, outside)?;
+    let outside = outside_text(alloc, sites, account)?;
     let mut text = String::from_str(alloc, "{\"outside\":")?;
     text.push_str(outside.as_str())?;
     text.push_str(",\"pairs\":[")?;

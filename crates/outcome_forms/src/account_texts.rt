@@ -4,11 +4,12 @@ ghost use Rattle.std.specs.Prelude.{◌≡◌, true, IfErr};
 ghost use Rattle.outcome_forms.specs.Writing.{AppendsText, is_of_writing};
 
 use crate::writing::print;
+use epc_core::Epc;
 use event_json::{PlainText, Sites};
 use recall_outcomes::{Fault, Ways};
 use recall_text::telling::{ended_word, name_of, push_pair, recall_text};
-use report_core::{CapturedEvent, StepEvents};
-use report_forms::{Account, Part, Title, Way};
+use report_core::{CapturedEvent, OutsideEvent, StepEvents};
+use report_forms::{Account, OutsidePart, Part, Title, Way};
 use std::alloc::{AllocError, Global};
 use std::io::Write;
 use trace_core::Pair;
@@ -54,11 +55,10 @@ fn head_text(alloc: Global, sites: &Sites, account: &Account<'_>) -> Result<Stri
 /// The lines behind the pairs: what left the traced sites, or where the item came from, and how many there are.
 fn end_text(alloc: Global, sites: &Sites, account: &Account<'_>) -> Result<String, AllocError> {
     let mut text = String::new(alloc);
-    for shipment in account.outside() {
-        let name = name_of(sites, shipment.site);
-        let key = shipment.item.key(alloc)?;
-        let place = shipment.destination.as_str();
-        text.push_str(format!(in alloc; "outside {name} {key} {place}\n")?.as_str())?;
+    for place in 0..account.outside_len() {
+        if let Some(part) = account.outside_part(place) {
+            push_outside(alloc, &mut text, sites, &part)?;
+        }
     }
     for origin in account.origins() {
         let name = name_of(sites, origin.site);
@@ -69,10 +69,44 @@ fn end_text(alloc: Global, sites: &Sites, account: &Account<'_>) -> Result<Strin
     Ok(text)
 }
 
+/// Adds the line of a shipment that left the traced sites, and that of its event, where it is told.
+fn push_outside(
+    alloc: Global,
+    text: &mut String,
+    sites: &Sites,
+    part: &OutsidePart<'_>,
+) -> Result<(), AllocError> {
+    let shipment = part.shipment;
+    let name = name_of(sites, shipment.site);
+    let key = shipment.item.key(alloc)?;
+    let place = shipment.destination.as_str();
+    text.push_str(format!(in alloc; "outside {name} {key} {place}\n")?.as_str())?;
+    match part.event {
+        Some(shown) => push_shown(alloc, text, &shipment.item, shown),
+        None => Ok(()),
+    }
+}
+
+/// Adds the line of the event that shows a shipment of an item, which ends with what the item left in, unless it is the
+/// item itself.
+fn push_shown(
+    alloc: Global,
+    text: &mut String,
+    item: &Epc,
+    shown: &OutsideEvent,
+) -> Result<(), AllocError> {
+    if shown.carrier == *item {
+        return push_event(alloc, text, &shown.event, "shipped");
+    }
+    let key = shown.carrier.key(alloc)?;
+    let did = format!(in alloc; "shipped in {key}")?;
+    push_event(alloc, text, &shown.event, did.as_str())
+}
+
 /// The last line.
 fn total_text(alloc: Global, account: &Account<'_>) -> Result<String, AllocError> {
     let pairs = account.len();
-    let outside = account.outside().len();
+    let outside = account.outside_len();
     let origins = account.origins().len();
     match account.title() {
         Title::Back => format!(in alloc; "total {pairs} origins {origins}\n"),

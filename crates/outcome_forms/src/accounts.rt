@@ -18,15 +18,12 @@ pub(crate) fn account_of(outcome: &Outcome) -> Option<(Account<'_>, Ways)>
             report,
             ways,
             events,
-        } => Some((
-            Account::of_report(*recall, report, told_events(events)),
-            *ways,
-        )),
+        } => Some((Account::of_report(*recall, report, events.as_ref()), *ways)),
         Outcome::Traced {
             trace,
             ways,
             events,
-        } => Some((Account::of_trace(trace, told_events(events)), *ways)),
+        } => Some((Account::of_trace(trace, events.as_ref()), *ways)),
         Outcome::TracedBack {
             trace,
             ways,
@@ -36,7 +33,7 @@ pub(crate) fn account_of(outcome: &Outcome) -> Option<(Account<'_>, Ways)>
     }
 }
 
-/// The events of each pair's steps; none where they weren't asked for.
+/// The events of the steps of a trace back; none where they weren't asked for.
 fn told_events(events: &Option<Vec<Sequence<StepEvents>>>) -> &[Sequence<StepEvents>]
     ensures { result.now ≡ told_events events.now }
 {

@@ -20,6 +20,7 @@ pub mod laws;
 mod notes;
 mod outcome_json;
 mod outcome_texts;
+mod outside_json;
 mod query_json;
 mod sentences;
 mod shown_texts;

@@ -28,7 +28,7 @@ pub(crate) fn why_sentence(why: &CommandRefusal) -> &'static str {
         CommandRefusal::Line(refused) => line_sentence(refused.why),
         CommandRefusal::NoWorld => "fewer than two sites are listed: list two or more",
         CommandRefusal::Exists(_) => {
-            "there is a file of this site, or a list of sites, already: use another folder, or remove the files if they are left of a `recall init` that crashed"
+            "there is a file of this site, or a list of sites, already: use another folder, or remove the files if they are left of a `recall init` or `recall copy` that crashed"
         }
         CommandRefusal::NoSite(_) => {
             "the folder's list has no site of this name: look at its file `sites`, and at the order of the command's words"
@@ -64,13 +64,16 @@ fn scan_sentence(fault: ScanFault) -> &'static str {
             "the text has neither an SSCC (00) nor a GTIN (01): scan the code that has one of them"
         }
         ScanFault::NoSerial => {
-            "the GTIN (01) has no serial number (21), so it names no single item: scan the code that has it, or find its items by `recall items`"
+            "the GTIN (01) has neither a serial number (21) nor a lot (10), so it names no single item: scan the code that has one of them, or find its items by `recall items`"
         }
         ScanFault::CheckDigit => {
             "the last digit of the GTIN (01) or of the SSCC (00) isn't its check digit, so a digit is wrong: scan it again, or compare it with the label"
         }
         ScanFault::BadSerial => {
             "the serial number (21) has more than 20 characters, or one that the standard has no place for: scan it again"
+        }
+        ScanFault::BadLot => {
+            "the lot (10) has more than 20 characters, or one that the standard has no place for: scan it again"
         }
     }
 }

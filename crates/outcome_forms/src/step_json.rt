@@ -58,7 +58,7 @@ fn step_json(alloc: Global, step: &StepEvents) -> Result<Value, AllocError>
 }
 
 /// An event.
-fn event_json(alloc: Global, event: &CapturedEvent) -> Result<Value, AllocError>
+pub(crate) fn event_json(alloc: Global, event: &CapturedEvent) -> Result<Value, AllocError>
     ensures { IfOk result (λ v. view v ≡ event_json event.now) }
 {
     let id = text_or_null(alloc, event.id.as_ref())?;

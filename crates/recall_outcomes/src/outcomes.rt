@@ -11,7 +11,7 @@ use gap_core::{GapLine, Gaps, UnseenItem};
 use item_spellings::ScanFault;
 use query_core::{KnownItem, RecallDetail, RecallStatus};
 use recall_text::RefusedLine;
-use report_core::{BackTrace, RecallReport, StepEvents, Trace, Verdict};
+use report_core::{BackTrace, RecallReport, ShownEvents, StepEvents, Trace, Verdict};
 use site_core::{Effects, Refusal};
 use site_recovery::Misfit;
 
@@ -86,15 +86,15 @@ pub enum Outcome {
         recall: RecallId,
         report: RecallReport,
         ways: Ways,
-        /// For each of its pairs the events of the steps that are told, in their order; `None` where they aren't told.
-        events: Option<Vec<Sequence<StepEvents>>>,
+        /// The events behind its steps and its shipments; `None` where they aren't told.
+        events: Option<ShownEvents>,
     },
     /// An item was traced to where it went.
     Traced {
         trace: Trace,
         ways: Ways,
-        /// For each of its pairs the events of the steps that are told, in their order; `None` where they aren't told.
-        events: Option<Vec<Sequence<StepEvents>>>,
+        /// The events behind its steps and its shipments; `None` where they aren't told.
+        events: Option<ShownEvents>,
     },
     /// An item was traced to where it came from.
     TracedBack {

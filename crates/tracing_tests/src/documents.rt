@@ -1,3 +1,4 @@
 //! Documents with answers that were written by hand.
 
 mod conversions;
+mod parts;

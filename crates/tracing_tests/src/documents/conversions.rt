@@ -304,23 +304,23 @@ fn texts(rt: HostRuntime) -> Result<(), Fail> {
     let rows = [
         (
             "\u{feff} {\"type\":\"ObjectEvent\"}\n",
-            "{\"type\":\"ObjectEvent\"}\nnote: written 1 events 1 links 0 lots 0 derived 0 untied 0 left 0\n",
+            "{\"type\":\"ObjectEvent\"}\nnote: written 1 events 1 links 0 lots 0 derived 0 untied 0 parted 0 left 0\n",
         ),
         (
             "\n{\"isA\":\"ObjectEvent\"}\r\n \n{\n[7,{\"type\":\"TransactionEvent\"}]",
-            "{\"isA\":\"ObjectEvent\",\"type\":\"ObjectEvent\"}\n{\"type\":\"TransactionEvent\"}\n4 0 Syntax\n5 1 NotDocument\nnote: written 2 events 2 links 0 lots 0 derived 0 untied 0 left 0\n",
+            "{\"isA\":\"ObjectEvent\",\"type\":\"ObjectEvent\"}\n{\"type\":\"TransactionEvent\"}\n4 0 Syntax\n5 1 NotDocument\nnote: written 2 events 2 links 0 lots 0 derived 0 untied 0 parted 0 left 0\n",
         ),
         (
             "",
-            "0 0 Syntax\nnote: written 0 events 0 links 0 lots 0 derived 0 untied 0 left 0\n",
+            "0 0 Syntax\nnote: written 0 events 0 links 0 lots 0 derived 0 untied 0 parted 0 left 0\n",
         ),
         (
             "x\n{\"type\":\"ObjectEvent\"}",
-            "0 0 Syntax\nnote: written 0 events 0 links 0 lots 0 derived 0 untied 0 left 0\n",
+            "0 0 Syntax\nnote: written 0 events 0 links 0 lots 0 derived 0 untied 0 parted 0 left 0\n",
         ),
         (
             "{}",
-            "0 0 NotDocument\nnote: written 0 events 0 links 0 lots 0 derived 0 untied 0 left 0\n",
+            "0 0 NotDocument\nnote: written 0 events 0 links 0 lots 0 derived 0 untied 0 parted 0 left 0\n",
         ),
     ];
     for (text, want) in &rows {
@@ -337,7 +337,7 @@ fn texts_with_lots(rt: HostRuntime) -> Result<(), Fail> {
         "{\"type\":\"ObjectEvent\",\"quantityList\":[{\"epcClass\":\"urn:epc:idpat:sgtin:9521321.000017.*\"}]}";
     let given = format!(in rt.alloc(); "{text}\n{bare}")?;
     let want =
-        "{\"epcList\":[\"https://id.gs1.org/01/09521321000179/10/Y-1\"],\"type\":\"ObjectEvent\"}\n{\"quantityList\":[{\"epcClass\":\"urn:epc:idpat:sgtin:9521321.000017.*\"}],\"type\":\"ObjectEvent\"}\nnote: written 2 events 2 links 0 lots 1 derived 0 untied 0 left 1\n";
+        "{\"epcList\":[\"https://id.gs1.org/01/09521321000179/10/Y-1\"],\"type\":\"ObjectEvent\"}\n{\"quantityList\":[{\"epcClass\":\"urn:epc:idpat:sgtin:9521321.000017.*\"}],\"type\":\"ObjectEvent\"}\nnote: written 2 events 2 links 0 lots 1 derived 0 untied 0 parted 0 left 1\n";
     assert!(rt; written(rt.alloc(), given.as_str(), true)?.as_str() == want);
     Ok(())
 }

@@ -1,5 +1,5 @@
 use Rattle.std.proofs.Common.{◌∙◌, ap}
-use Rattle.document_convert.specs.Lots.{lot_text}
+use Rattle.item_spellings.specs.Lots.{lot_text}
 use Rattle.document_convert.proofs.LotLemmas.{lot_of_form}
 use Rattle.document_convert.proofs.lots.lot_of_unit.Goals as goal
 

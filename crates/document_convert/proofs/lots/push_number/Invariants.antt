@@ -1,7 +1,0 @@
-use Rattle.std.proofs.Common.{◌≡◌, ◌++◌, take, string_bytes}
-use Rattle.document_convert.specs.Lots.{escape}
-use Rattle.document_convert.proofs.lots.push_number.Given as goal
-
--- what was appended so far
-abbrev pub invariant-loop-b : goal.invariant-loop-b
-invariant-loop-b l = string_bytes l.text ≡ string_bytes l.initial.text ++ escape (take l.b-index l.number)
