@@ -1,7 +1,8 @@
 #!/usr/bin/env bash
 # Drives the program on a folder of files as a person would: each command, most refusals and faults (docs/PROOFS.md lists the
 # others; another version, a bad row and a locked file only where `sqlite3` is installed), and stops by `kill -9` at moments
-# of a capture and a start, after each of which an audit finds the record before or after it.
+# of a capture and a start, after each of which an audit finds the record before or after it, and of a copy, after each of
+# which the folder answers as before, and the copy is none or answers as the folder.
 # Run by hand, and by the gate on the program that it built. RECALL names another program, STOPS how often it is
 # stopped. It ends with status 0 where all is as it should be, and takes less than two minutes.
 set -u
@@ -244,6 +245,8 @@ done
 damaged
 "$recall" report damaged 'dairy#1' >/dev/full 2>err
 [ $? = 3 ] && [ "$(cat err)" = "$(explained report '' 'fault Write')" ] || { echo "a full output: $(cat err)" >&2; failed=1; }
+"$recall" capture chain shop-2 "$chain/shop-2.json" "$chain/shop-2.json" >/dev/full 2>err
+[ $? = 3 ] && grep -qx 'fault Write' err || { echo "a full output of several documents: $(cat err)" >&2; failed=1; }
 
 echo "other things in the place of a file"
 echo precious >victim
@@ -295,6 +298,57 @@ cat "$chain/shop-2.json" >pipe &
 wants 0 'captured 0 known 2 skipped 0' '' capture chain shop-2 pipe
 wait
 
+echo "copies"
+# told FOLDER: what it answers
+told() {
+    local words
+    for words in 'status @' 'audit @' 'report @ plant#1 --events' 'coverage @'; do
+        "$recall" ${words/@/$1} 2>&1
+        echo "status $?"
+    done
+}
+# alike FOLDER OTHER: both answer alike
+alike() {
+    [ "$(told "$1")" = "$(told "$2")" ] || { echo "$2 answers otherwise than $1" >&2; failed=1; }
+}
+mkdir friday
+wants 0 '' '' copy chain friday
+cmp chain/sites friday/sites || failed=1
+alike chain friday
+rm -rf friday && mkdir friday
+faults Read 'none/sites: no such file or folder' copy none friday
+damaged
+rm damaged/shop-2.db damaged/shop-2.db-wal
+faults Read 'damaged/shop-2.db: no such file or folder' copy damaged friday
+damaged
+truncate -s 8192 damaged/plant.db
+faults Device 'damaged/plant.db: damaged' copy damaged friday
+[ -z "$(ls friday)" ] || { echo "a copy was made of a damaged folder: $(ls friday)" >&2; failed=1; }
+faults Device 'nowhere/dairy.db: no such file or folder' copy chain nowhere
+# what is there is refused, and nothing is changed
+rm -rf held && cp -r chain held
+for to in chain chain/. "$work/chain"; do
+    wants 1 "$(printf 'refused Exists %s\n' dairy plant shop-1 shop-2)" '' copy chain "$to"
+done
+wants 1 'refused Exists sites' '' copy chain listed
+[ "$(ls listed)" = sites ] || { echo "a copy was made beside a list: $(ls listed)" >&2; failed=1; }
+: >friday/plant.db
+wants 1 'refused Exists plant' '' copy chain friday
+[ "$(ls friday)" = plant.db ] && [ ! -s friday/plant.db ] || { echo "a copy was made over a file: $(ls -l friday)" >&2; failed=1; }
+diff -r chain held || { echo "a refused copy changed the folder" >&2; failed=1; }
+# a folder in use is none to copy, but it is waited for
+if command -v sqlite3 >/dev/null; then
+    rm -rf friday held && mkdir friday
+    damaged
+    printf 'begin exclusive;\n.shell touch held; sleep 2\n' | sqlite3 damaged/shop-1.db &
+    while [ ! -e held ]; do sleep 0.01; done
+    faults Device 'damaged/shop-1.db: in use by another program' copy damaged friday
+    [ -z "$(ls friday)" ] || { echo "a copy was made of a folder in use: $(ls friday)" >&2; failed=1; }
+    wants 0 '' '' copy damaged friday --wait 60
+    wait
+    alike chain friday
+fi
+
 echo "files of the first version"
 data=$here/tests/data/first-version
 # first: a folder of files of the first version
@@ -319,6 +373,14 @@ B#1 ended" '' run first
 if command -v sqlite3 >/dev/null; then
     [ "$(sqlite3 first/A.db 'select version from store')" = 2 ] || { echo "a file wasn't migrated" >&2; failed=1; }
     [ "$(sqlite3 first/A.db 'select count(*) from pack, packed')" = 0 ] || { echo "a migrated file has packs" >&2; failed=1; }
+    # a copy is of the newest version, and its pages have sums
+    first
+    rm -rf newest && mkdir newest
+    wants 0 '' '' copy first newest
+    wants 0 "$(cat "$data/audit.txt")" '' audit newest
+    wants 0 "$(cat "$data/report-A1.txt")" '' report newest 'A#1'
+    [ "$(sqlite3 newest/A.db 'select version from store')" = 2 ] || { echo "a copy is of an older version" >&2; failed=1; }
+    [ "$(od -An -tu1 -j 20 -N 1 newest/A.db | tr -d ' ')" = 8 ] || { echo "a copy has no sums" >&2; failed=1; }
     # a bad row leaves a file as it is
     first
     changes first/A.db 'update event set kind = 9 where no = 1' || failed=1
@@ -337,7 +399,7 @@ if ! touch first/A.db 2>/dev/null; then
 fi
 chmod -R u+w first
 
-echo "$stops stops of a capture, as many of a start, and as many of a capture of many documents"
+echo "$stops stops of a copy, of a capture, of a start, and of a capture of many documents"
 rm -rf before stopped
 mkdir before
 wants 0 '' '' init before "$chain/sites"
@@ -355,6 +417,25 @@ stop() {
     kill -9 $! 2>/dev/null
     wait $! 2>/dev/null
 }
+
+rm -rf copied && mkdir copied
+answers=$(told chain)
+begun=$(date +%s%N)
+wants 0 '' '' copy chain copied
+copying=$((($(date +%s%N) - begun) / 1000))
+none=0
+for ((n = 0; n < stops; n++)); do
+    rm -rf copied && mkdir copied
+    stop $((copying * n / stops)) copy chain copied
+    [ "$(told chain)" = "$answers" ] || { echo "a stopped copy changed the folder" >&2; failed=1; }
+    if [ -e copied/sites ]; then
+        alike chain copied
+    else
+        none=$((none + 1))
+        faults Read 'copied/sites: no such file or folder' audit copied
+    fi
+done
+echo "  $none of the copies left none"
 
 old=0
 for ((n = 0; n < stops; n++)); do

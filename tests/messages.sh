@@ -109,6 +109,7 @@ for ((n = 0; n < 1000; n++)); do
     [ -s fed ] && break
     sleep 0.01
 done
+[ -s fed ] || complain "no line is written while the feed is open"
 faults Device 'at/plant.db: in use by another program' "$recall" audit at
 faults Device 'at/plant.db: in use by another program' "$recall" start at plant "$tank"
 faults Device 'at/plant.db: in use by another program' "$recall" audit at --wait 1

@@ -8,7 +8,7 @@
 # NAME.commands has command lines behind `$ `, with words as a shell parts them, though no shell reads them. Behind each come
 # what it prints; a line `! TEXT` for each of the first lines of the error stream, which begins so (`!` alone: there is none;
 # without such a line the error stream isn't looked at); and `= N`, the status where it isn't 0. The commands of a case run one
-# after another in a new folder, with copies of tests/scripts/files and an empty folder `d`.
+# after another in a new folder, with copies of tests/scripts/files and the empty folders `d` and `e`.
 #
 # Run by hand, and by the gate on the program that it built. RECALL names another program; words name the cases to run. It
 # prints a line a case, and last how many passed. Status 1 where one differs or none ran, 2 where there is no program.
@@ -48,6 +48,7 @@ def folder():
     shutil.rmtree(f'{work}/folder', ignore_errors=True)
     shutil.copytree(f'{cases}/files', f'{work}/folder')
     os.mkdir(f'{work}/folder/d')
+    os.mkdir(f'{work}/folder/e')
 
 
 def compare(what, was, printed):

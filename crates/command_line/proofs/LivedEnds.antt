@@ -1,27 +1,23 @@
 -- What the contract of a command line says of its calls is that they are acts of the sites.
-use Rattle.std.proofs.Common.{◌≡◌, ℕ, zero, suc, ◌+◌, Bool, true, false, Option, None, List, [], ◌∷◌, ◌++◌, Contains, length, sym, subst, inl, inr, ⊎_elim}
-use Rattle.std.specs.Prelude.{⊤, Result, Ok, Err, IfOk, IfErr}
+use Rattle.std.proofs.Common.{◌≡◌, ℕ, true, false, Option, None, List, [], ◌∷◌, sym, subst, inl, inr}
+use Rattle.std.specs.Prelude.{Result, Ok, Err, IfOk, IfErr}
 use Rattle.std.specs.Global.{Global}
 use Rattle.std.specs.declared.string.String.{String}
-use Rattle.std.specs.List.{AllByRecursion}
-use Rattle.trace_core.proofs.Members.{contains_cases, contains_none}
 use Rattle.event_json.specs.Sites.{Site}
 use Rattle.document_lint.specs.declared.findings.Lint.{Lint}
 use Rattle.keeper_core.specs.declared.faults.Unopened.{Unopened}
 use Rattle.recall_outcomes.specs.declared.faults.Fault.{Fault}
 use Rattle.recall_outcomes.specs.declared.outcomes.CommandRefusal.{CommandRefusal}
-use Rattle.recall_outcomes.specs.declared.outcomes.Outcome.{Outcome}
 use Rattle.recall_outcomes.specs.declared.outcomes.Output.{Output}
 use Rattle.site_core.specs.Records.{Record}
 use Rattle.site_folders.specs.Faults.{OnlyAsks}
-use Rattle.site_folders.specs.FileCalls.{FileCall, Blamed, ClosedSite, Failed, Led, LookedFor, MadeSite, OpenedSite, ReadFile, ReadLine, WroteFile}
-use Rattle.site_folders.specs.Paths.{list_path}
+use Rattle.site_folders.specs.FileCalls.{FileCall, Led, ReadFile}
 use Rattle.site_folders.proofs.CallsInTurn.{led_so}
 use Rattle.site_folders.proofs.VainLemmas.{asks_first, none_asks}
 use Rattle.folder_commands.specs.Lints.{Lints, LintsWhere, here_of}
-use Rattle.folder_commands.specs.Making.{InitsAt, ListMakesThen, LooksForList, MakesSome, MakesWhere, looks_from, makes_from}
 use Rattle.folder_commands.specs.declared.batches.BatchOutput.{BatchOutput}
 use Rattle.folder_commands.specs.declared.lints.LintOutput.{LintOutput}
+use Rattle.folder_commands.proofs.Closings.{CloseNone, CloseOpened, copies_opened, inits_none, no_calls_close, none_closed, some_copies_opened, then_none}
 use Rattle.folder_commands.proofs.LintLemmas.{each_asks}
 use Rattle.command_line.specs.CommandLines.{words_of}
 use Rattle.command_line.specs.Converting.{ConvertEnds}
@@ -31,7 +27,7 @@ use Rattle.command_line.specs.Packs.{Finds}
 use Rattle.command_line.specs.Lives.{AreActsOfSites, LeadByActs}
 use Rattle.command_line.specs.declared.asked.Batch.{Batch}
 use Rattle.command_line.specs.declared.asked.FileCommand.{FileCommand}
-use Rattle.command_line.specs.declared.asked.FileCommand.TheVariants.{Init, Capture, Start, Run, Report, Audit, Trace, Recalls, Recall as OneRecall, Items, Inside, Coverage, Gaps}
+use Rattle.command_line.specs.declared.asked.FileCommand.TheVariants.{Init, Copy, Capture, Start, Run, Report, Audit, Trace, Recalls, Recall as OneRecall, Items, Inside, Coverage, Gaps}
 use Rattle.command_line.specs.declared.convert_commands.ConvertFiles.{ConvertFiles}
 use Rattle.command_line.specs.declared.lint_commands.LintFiles.{LintFiles}
 use Rattle.command_line.specs.declared.pack_commands.PackFiles.{PackFiles}
@@ -40,78 +36,16 @@ use Rattle.command_line.proofs.ConvertLemmas.{converts_ask, fails_ask}
 use Rattle.command_line.proofs.LivedAnswers.{after_asks, all_told, asks_behind, batch_failed, batch_taken, capture_failed, captured, has_run, refused_or, run_failed, site_told, start_failed, started}
 use Rattle.command_line.proofs.LivedCommands.{acted_unchanged, only_asked}
 
--- ---- calls that close no site
-
-module _ {K : Type 0} where
-  IsNoClosing : FileCall K → Type 0
-  IsNoClosing (ClosedSite keeper) = ⊥
-  IsNoClosing (ReadFile path bytes) = ⊤
-  IsNoClosing (ReadLine path line) = ⊤
-  IsNoClosing (Failed path fault) = ⊤
-  IsNoClosing (LookedFor path found) = ⊤
-  IsNoClosing (MadeSite path r) = ⊤
-  IsNoClosing (OpenedSite path name keeper) = ⊤
-  IsNoClosing (WroteFile path bytes) = ⊤
-  IsNoClosing (Blamed path) = ⊤
-
-  abbrev CloseNone : List (FileCall K) → Type 0
-  CloseNone calls = AllByRecursion IsNoClosing calls
-
-  none_both : (xs ys : List (FileCall K)) → CloseNone xs → CloseNone ys → CloseNone (xs ++ ys)
-  none_both [] ys h k = k
-  none_both (x ∷ xs) ys h k = (h.0, none_both xs ys h.1 k)
-
-  none_closed : (calls : List (FileCall K)) (k : K) → CloseNone calls → Contains calls (ClosedSite k) → ⊥
-  unfolding IsNoClosing
-  none_closed [] k h c = contains_none (ClosedSite k) c
-  none_closed (x ∷ xs) k h c = ⊎_elim (λ (e : x ≡ ClosedSite k). subst IsNoClosing e h.0) (λ d. none_closed xs k h.1 d) (contains_cases x (ClosedSite k) xs c)
-
-looks_none : (K : Type 0) (folder : List ℕ) (sites : List Site) (site : ℕ) (found : List Bool) → CloseNone {K = K} (looks_from folder sites site found)
-unfolding IsNoClosing
-looks_none K folder sites site [] = tt
-looks_none K folder sites site (f ∷ found) = (tt, looks_none K folder sites (site + 1) found)
-
-makes_none : (K : Type 0) (folder : List ℕ) (sites : List Site) (site count : ℕ) → CloseNone {K = K} (makes_from folder sites site count)
-unfolding IsNoClosing
-makes_none K folder sites site zero = tt
-makes_none K folder sites site (suc count) = (tt, makes_none K folder sites (site + 1) count)
-
-module _ {K : Type 0} where
-  list_none : (folder : List ℕ) (before refused : List CommandRefusal) (calls : List (FileCall K)) → LooksForList folder before refused calls → CloseNone calls
-  unfolding IsNoClosing
-  list_none folder [] refused calls (found, are, is) = subst CloseNone (sym is) (tt, tt)
-  list_none folder (why ∷ whys) refused calls (are, is) = subst CloseNone (sym is) tt
-
-  where_none : (folder : List ℕ) (refused : List CommandRefusal) (sites : List Site) (text : List ℕ) (outcome : Outcome) (calls : List (FileCall K)) → MakesWhere folder refused sites text outcome calls → CloseNone calls
-  unfolding IsNoClosing
-  where_none folder [] sites text outcome calls (made, is) = subst CloseNone (sym is) (none_both (makes_from folder sites 0 (length sites)) (WroteFile (list_path folder) text ∷ []) (makes_none K folder sites 0 (length sites)) (tt, tt))
-  where_none folder (why ∷ whys) sites text outcome calls (refused, is) = subst CloseNone (sym is) tt
-
-  inits_none : (folder list : List ℕ) (output : Output) (calls : List (FileCall K)) → InitsAt folder list output calls → CloseNone calls
-  unfolding IsNoClosing
-  inits_none folder list output calls at =
-      let m = at.made in
-      let looked = none_both (looks_from folder at.listed.sites 0 m.found) m.looks (looks_none K folder at.listed.sites 0 m.found) (list_none folder _ m.refused m.looks m.last) in
-      let here = none_both (looks_from folder at.listed.sites 0 m.found ++ m.looks) m.makes looked (where_none folder m.refused at.listed.sites at.text output.outcome m.makes m.made) in
-      subst CloseNone (sym at.calls_are) (tt, subst CloseNone (sym m.calls_are) here)
-
-  some_none : (folder : List ℕ) (sites : List Site) (fault : Fault) (calls : List (FileCall K)) → MakesSome folder sites fault calls → CloseNone calls
-  unfolding IsNoClosing
-  some_none folder sites fault calls some =
-      subst CloseNone (sym some.calls_are) (none_both (makes_from folder sites 0 some.made) some.rest (makes_none K folder sites 0 some.made)
-      (⊎_elim (λ a. subst CloseNone (sym a.1) (tt, tt)) (λ b. ⊎_elim (λ a. subst CloseNone (sym a.1) (tt, tt)) (λ a. subst CloseNone (sym a.1) tt) b) some.came))
-
-  then_none : (folder list : List ℕ) (fault : Fault) (calls : List (FileCall K)) → ListMakesThen folder list fault calls → CloseNone calls
-  unfolding IsNoClosing
-  then_none folder list fault calls at =
-      let m = at.made in
-      let here = none_both (looks_from folder at.listed.sites 0 m.found) (LookedFor (list_path folder) false ∷ m.rest) (looks_none K folder at.listed.sites 0 m.found) (tt, some_none folder at.listed.sites fault m.rest m.made) in
-      subst CloseNone (sym at.calls_are) (tt, subst CloseNone (sym m.calls_are) here)
-
 module _ {K : Type 0} (shown : K → Option Record) (may : K → Record → Type 0) (opens : (k : K) → shown k ≡ None → (r : Record) × may k r) (stored : K → Type 0) where
   none_acts : (calls : List (FileCall K)) → CloseNone calls → AreActsOfSites shown may calls
   none_acts calls none sites old new many continued left =
       acted_unchanged shown may opens stored [] sites old new many calls continued left (λ k site stood closed of at. absurd (none_closed calls k none closed))
+
+  -- a site that was opened and closed is as it was
+  opened_acts : (calls : List (FileCall K)) → CloseOpened calls → AreActsOfSites shown may calls
+  opened_acts calls opened sites old new many continued left =
+      acted_unchanged shown may opens stored [] sites old new many calls continued left
+      (λ k site stood closed of at. let (path, name, was) = opened k closed in continued.shows path name k site stood was of at)
 
   asked_acts : (calls : List (FileCall K)) → OnlyAsks calls → AreActsOfSites shown may calls
   asked_acts calls asks sites old new many continued left = only_asked shown may opens stored [] sites old new many calls continued left asks
@@ -119,6 +53,7 @@ module _ {K : Type 0} (shown : K → Option Record) (may : K → Record → Type
   module _ {G : Type 0} (knows : List ℕ → List ℕ → Type 0) (failed : K → ℕ) (reopens : K → Result K (Unopened K) → Type 0) (gives_up : G → ℕ → ℕ → Type 0) where
     leads_acts : (command : FileCommand) (output : Output) (calls : List (FileCall K)) → LeadsTo knows shown failed may stored command output calls → AreActsOfSites shown may calls
     leads_acts (Init f list) output calls leads = none_acts calls (inits_none f.now list.now output calls leads)
+    leads_acts (Copy f to) output calls leads = opened_acts calls (copies_opened shown stored f.now to.now output calls leads)
     leads_acts (Capture f site file) output calls leads = λ sites old new many continued left. captured shown may opens stored f.now sites old new many calls continued left site.now file.now output leads
     leads_acts (Start f site item false) output calls leads = λ sites old new many continued left. started shown may opens stored f.now sites old new many calls continued left _ site.now item output leads
     leads_acts (Start f site item true) output calls leads =
@@ -139,6 +74,8 @@ module _ {K : Type 0} (shown : K → Option Record) (may : K → Record → Type
     fails_acts : (command : FileCommand) (fault : Fault) (calls : List (FileCall K)) → FailsBy shown failed may reopens gives_up stored command fault calls → AreActsOfSites shown may calls
     fails_acts (Init f list) fault calls (inl vain) = asked_acts calls vain.harmless
     fails_acts (Init f list) fault calls (inr made) = none_acts calls (then_none f.now list.now fault calls made)
+    fails_acts (Copy f to) fault calls (inl vain) = asked_acts calls vain.harmless
+    fails_acts (Copy f to) fault calls (inr some) = opened_acts calls (some_copies_opened shown stored f.now to.now fault calls some)
     fails_acts (Capture f site file) fault calls fails = λ sites old new many continued left. capture_failed shown may opens stored f.now sites old new many calls continued left failed site.now file.now fault fails
     fails_acts (Start f site item false) fault calls fails = λ sites old new many continued left. start_failed shown may opens stored f.now sites old new many calls continued left failed site.now item fault fails
     fails_acts (Start f site item true) fault calls fails = asked_acts calls fails.harmless
@@ -164,8 +101,8 @@ module _ {K : Type 0} (shown : K → Option Record) (may : K → Record → Type
 
 module _ {F K G W : Type 0} (does : F → FileCall K → F → Type 0) (waits limits : F → ℕ → F → Type 0) (knows : F → List ℕ → List ℕ → Type 0) (shown : K → Option Record) (failed : K → ℕ) (may : K → Record → Type 0) (reopens : K → Result K (Unopened K) → Type 0) (gives_up : G → ℕ → ℕ → Type 0) (stored : K → Type 0) (contents : W → Option (List ℕ))
     (opens : (k : K) → shown k ≡ None → (r : Record) × may k r) where
-  pub unasked : (old new : F) → new ≡ old → LeadByActs shown may does old new
-  unasked old new same = (old, record { calls = []; are = none_acts shown may opens stored [] tt; led = same })
+  unasked : (old new : F) → new ≡ old → LeadByActs shown may does old new
+  unasked old new same = (old, record { calls = []; are = none_acts shown may opens stored [] (no_calls_close K); led = same })
 
   files_acts : (command : FileCommand) (mid new : F) (came : Result Output Fault) → IfOk came (λ output. Led does mid new (LeadsTo (knows new) shown failed may stored command output)) → IfErr came (λ fault. Led does mid new (FailsBy shown failed may reopens gives_up stored command fault))
       → Led does mid new (AreActsOfSites shown may)

@@ -4,13 +4,14 @@ use Rattle.clap.specs.Words.{Row, Text}
 use Rattle.command_line.specs.CommandLines.{AsksFiles, AsksNamed, HasTurns, named}
 use Rattle.command_line.specs.declared.asked.Asked.TheVariants as asked
 use Rattle.command_line.specs.declared.asked.FileCommand.{FileCommand}
-use Rattle.command_line.specs.declared.asked.FileCommand.TheVariants.{Init, Capture, Start, Run, Report, Audit, Trace, Recalls, Recall, Items, Inside, Coverage, Gaps}
+use Rattle.command_line.specs.declared.asked.FileCommand.TheVariants.{Init, Copy, Capture, Start, Run, Report, Audit, Trace, Recalls, Recall, Items, Inside, Coverage, Gaps}
 use Rattle.command_line.specs.declared.asked.Terms.{Terms}
 
 in_range : (found : Option (Text × List Row)) (command : FileCommand) (terms : Terms) → AsksNamed found (asked.Files command terms) → HasTurns command
 in_range None command terms is = absurd is
 in_range (Some (name, rows)) (Run folder run) terms ((named_so, folder_is, turns_are, least, most, unless_gaps, coded), others) = most
 in_range (Some entry) (Init folder list) terms is = tt
+in_range (Some entry) (Copy folder to) terms is = tt
 in_range (Some entry) (Capture folder site file) terms is = tt
 in_range (Some entry) (Start folder site item dry) terms is = tt
 in_range (Some entry) (Report folder recall ways events) terms is = tt

@@ -22,7 +22,7 @@ use Rattle.command_line.specs.declared.asked.FileCommand.{FileCommand}
 use Rattle.command_line.specs.declared.convert_commands.ConvertFiles.{ConvertFiles}
 use Rattle.command_line.specs.declared.lint_commands.LintFiles.{LintFiles}
 use Rattle.command_line.specs.declared.pack_commands.PackFiles.{PackFiles}
-use Rattle.command_line.specs.declared.asked.FileCommand.TheVariants.{Init, Capture, Start, Run, Report, Audit, Trace, Recalls, Recall, Items, Inside, Coverage, Gaps}
+use Rattle.command_line.specs.declared.asked.FileCommand.TheVariants.{Init, Copy, Capture, Start, Run, Report, Audit, Trace, Recalls, Recall, Items, Inside, Coverage, Gaps}
 use Rattle.command_line.specs.CommandLines.{recall, faults_of, named, AsksBatch, AsksDryBatch, AsksFiles, AsksHelp, AsksLinesAndEvents, AsksLint, AsksNamed, AsksOf, AsksPacks, AsksTwo, AsksTwoForms, Contradicts, GivesDocuments, GivesEpcs, GivesFiles, GivesSpelling, GivesWords, IsBad, IsBatch, IsCapture, IsCommand, IsContradiction, IsLintCommand, IsMistake, IsPacksCommand, IsSet, IsShown, IsStart, AsksFor, IsToldAs, IsUnset, epcs_kind, has_many, words_of, AsksConvert, IsConvertCommand}
 use mathlib.Core.Logic.{◌⊎◌}
 
@@ -47,6 +47,7 @@ sim_named name = refl
 -- no command on files has the name `sim`
 sim_is_no_command : (command : FileCommand) (rows : List Row) → IsCommand command (codes "sim") rows → ⊥
 sim_is_no_command (Init folder list) rows is = let bad = is.0 in cc
+sim_is_no_command (Copy folder to) rows is = let bad = is.0 in cc
 sim_is_no_command (Capture folder site file) rows is = let bad = is.0 in cc
 sim_is_no_command (Start folder site item dry) rows is = let bad = is.0 in cc
 sim_is_no_command (Run folder terms) rows is = let bad : ◌≡◌ {A = ℕ} 115 114 = ap (λ (text : List ℕ). get_or text 0 0) is.0 in absurd (omega arith)

@@ -26,7 +26,7 @@ use Rattle.command_line.specs.declared.asked.Terms.{Terms}
 use Rattle.command_line.specs.declared.convert_commands.ConvertFiles.{ConvertFiles}
 use Rattle.command_line.specs.declared.lint_commands.LintFiles.{LintFiles}
 use Rattle.command_line.specs.declared.pack_commands.PackFiles.{PackFiles}
-use Rattle.command_line.specs.declared.asked.FileCommand.TheVariants.{Init, Capture, Start, Run, Report, Audit, Trace, Recalls, Recall, Items, Inside, Coverage, Gaps}
+use Rattle.command_line.specs.declared.asked.FileCommand.TheVariants.{Init, Copy, Capture, Start, Run, Report, Audit, Trace, Recalls, Recall, Items, Inside, Coverage, Gaps}
 
 -- the words of a batch
 abbrev pub words_of : Batch → List (List ℕ)
@@ -160,6 +160,10 @@ coverage = on_folder (codes "coverage")
 abbrev pub gaps : App
 gaps = with_rule (on_folder (codes "gaps")) (flag (codes "exit-code"))
 
+-- to a folder that is there
+abbrev pub copy : App
+copy = with_rule (on_folder (codes "copy")) (required (codes "to"))
+
 -- `--in epc`
 abbrev pub containing : Rule
 containing = record (new_rule (codes "in")) { long = Some (codes "in"); value_names = 1 }
@@ -196,11 +200,14 @@ abbrev pub versioned : App → App
 versioned a = record a { top = record a.top { has_version = true } }
 
 abbrev pub recall : App
-recall = with_command (with_command (with_command (with_command (with_command (with_command (with_command (with_command changing trace) status) items) lint) gaps) packs) convert) coverage where
+recall = with_command asking copy where
   -- those that came first
   changing : App
   changing =
       with_command (with_command (with_command (with_command (with_command (with_command (with_command (needing (versioned (new_app (codes "recall")))) sim) init) capture) start) run) report) audit
+
+  asking : App
+  asking = with_command (with_command (with_command (with_command (with_command (with_command (with_command (with_command changing trace) status) items) lint) gaps) packs) convert) coverage
 
 -- ---- what words ask for
 
@@ -311,6 +318,7 @@ GivesEpcs rows epcs by_lines = (all_of (codes "epc") rows ≡ Some epcs) × (IsT
 -- the command has this name and these arguments
 abbrev pub IsCommand : FileCommand → Text → List Row → Type 0
 IsCommand (Init folder list) name rows = (name ≡ codes "init") × Gives rows (codes "dir") folder.now × Gives rows (codes "sites") list.now
+IsCommand (Copy folder to) name rows = (name ≡ codes "copy") × Gives rows (codes "dir") folder.now × Gives rows (codes "to") to.now
 IsCommand (Capture folder site file) name rows =
     (name ≡ codes "capture") × Gives rows (codes "dir") folder.now × Gives rows (codes "site") site.now × GivesFiles rows (file.now ∷ []) kinds.Document
 IsCommand (Start folder site item dry) name rows =

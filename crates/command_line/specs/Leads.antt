@@ -26,12 +26,13 @@ use Rattle.folder_questions.specs.Reports.{AnswersReport}
 use Rattle.folder_questions.specs.SiteItems.{AnswersItems}
 use Rattle.folder_questions.specs.Standings.{AnswersRecall, AnswersRecalls}
 use Rattle.folder_questions.specs.Traces.{AnswersTrace}
+use Rattle.folder_commands.specs.Copying.{CopiesAt, CopyFails}
 use Rattle.folder_commands.specs.Making.{InitFails, InitsAt}
 use Rattle.folder_commands.specs.Runs.{RunFails, RunsAt}
 use Rattle.folder_commands.specs.Steps.{CaptureFails, CapturesAt, StartFails, StartsAt}
 use Rattle.command_line.specs.UnknownItems.{AndWho}
 use Rattle.command_line.specs.declared.asked.FileCommand.{FileCommand}
-use Rattle.command_line.specs.declared.asked.FileCommand.TheVariants.{Init, Capture, Start, Run, Report, Audit, Trace, Recalls, Recall as OneRecall, Items, Inside, Coverage, Gaps}
+use Rattle.command_line.specs.declared.asked.FileCommand.TheVariants.{Init, Copy, Capture, Start, Run, Report, Audit, Trace, Recalls, Recall as OneRecall, Items, Inside, Coverage, Gaps}
 
 -- an outcome beside which nothing is noted
 abbrev pub Plainly : {K : Type 0} → (List Site → Outcome → List (FileCall K) → Type 0) → Output → List (FileCall K) → Type 0
@@ -114,6 +115,7 @@ module _ {K : Type 0} (knows : List ℕ → List ℕ → Type 0) (shown : K → 
   -- The calls of the command, which lead to this output. Behind a command on an item that the site doesn't know it is asked who does.
   abbrev pub LeadsTo : FileCommand → Output → List (FileCall K) → Type 0
   LeadsTo (Init folder list) output calls = InitsAt folder.now list.now output calls
+  LeadsTo (Copy folder to) output calls = CopiesAt shown stored folder.now to.now output calls
   LeadsTo (Capture folder site file) output calls = CapturesAt shown stored folder.now site.now file.now output calls
   LeadsTo (Start folder site item false) output calls =
       AndWho shown stored folder.now (record { site = site; item = item }) (StartsAt shown stored folder.now site.now item) output calls
@@ -136,6 +138,7 @@ module _ {K G : Type 0} (shown : K → Option Record) (failed : K → ℕ) (may 
   -- the calls of the command, which lead to this fault: a question changed nothing
   abbrev pub FailsBy : FileCommand → Fault → List (FileCall K) → Type 0
   FailsBy (Init folder list) fault calls = InitFails folder.now shown list.now fault calls
+  FailsBy (Copy folder to) fault calls = CopyFails shown stored folder.now to.now fault calls
   FailsBy (Capture folder site file) fault calls = CaptureFails shown may failed stored folder.now site.now file.now fault calls
   FailsBy (Start folder site item false) fault calls = StartFails shown may failed stored folder.now site.now item fault calls
   FailsBy (Start folder site item true) fault calls = EndsInVain shown folder.now fault calls

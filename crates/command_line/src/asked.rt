@@ -60,6 +60,11 @@ pub(crate) enum FileCommand<'a> {
         folder: &'a str,
         list: &'a str,
     },
+    /// The records of all sites are copied to another folder.
+    Copy {
+        folder: &'a str,
+        to: &'a str,
+    },
     /// The document of one file is captured at a site.
     Capture {
         folder: &'a str,

@@ -273,6 +273,9 @@ fn file_command<'a>(name: &str, given: &ArgMatches<'a>) -> Option<FileCommand<'a
     if name == "init" {
         let list = argument(given, "sites")?;
         Some(FileCommand::Init { folder, list })
+    } else if name == "copy" {
+        let to = argument(given, "to")?;
+        Some(FileCommand::Copy { folder, to })
     } else if name == "run" {
         all_sites_command(folder, given)
     } else if name == "report" {

@@ -93,6 +93,34 @@ pub fn run_command<
     // other, wherever the files go on.
     ensures acts { LeadByActs K.shown K.may F.does files.old files.new }
 {
+    answer(rt, alloc, keys, files, gate, words, input, output, errors)
+}
+
+/// Does what the words of a command line ask for, as [`run_command`] says it: the other clauses there follow from this
+/// one.
+fn answer<
+    R: Threads + Wait + Clock + Sync,
+    K: SiteKeeper + Send,
+    F: Files<K> + LimitsDocuments,
+    G: Gate + Copy + Send,
+    I: Read,
+    W: Write,
+    E: Write,
+>(
+    rt: &R,
+    alloc: Global,
+    keys: RandomState,
+    files: &mut F,
+    gate: G,
+    words: &[String],
+    input: &mut I,
+    output: &mut W,
+    errors: &mut E,
+) -> u8
+    ensures { Ends F.does F.waits F.limits F.knows K.shown K.failed K.may K.reopens G.gives_up
+        K.stored W.contents words.now files.old files.new
+        (streams I.remaining input.old output.old) (streams I.remaining input.new output.new) result }
+{
     match command_lines::read(alloc, words) {
         Ok(Asked::Sim) => sim(alloc, keys, input, output, errors),
         Ok(Asked::Files(command, terms)) => {

@@ -10,7 +10,7 @@ ghost use Rattle.command_line.specs.UnknownItems.{TellsBehind, is_unknown, is_un
 
 use crate::asked::FileCommand;
 use event_json::Sites;
-use folder_commands::{capture, init, run_sites, start};
+use folder_commands::{capture, copy, init, run_sites, start};
 use folder_questions::{
     Audit, ContentsOf, CoverageOf, DryStart, GapsOf, ItemsOf, KnowersOf, ReportOf, StatusOf,
     Statuses, TraceOf,
@@ -50,6 +50,7 @@ pub(crate) fn do_command<
     match command {
         FileCommand::Run { folder, terms } => run_sites(rt, alloc, files, gate, folder, *terms),
         FileCommand::Init { folder, list } => init(alloc, keys, files, folder, list),
+        FileCommand::Copy { folder, to } => copy(alloc, files, folder, to),
         FileCommand::Capture { folder, site, file } => capture(alloc, files, folder, site, file),
         FileCommand::Start {
             folder,

@@ -55,7 +55,7 @@ For more information, try '--help'.
 pub(crate) const PAGE: &str = "\
 A folder holds a supply chain: the file `sites` lists its sites, and each site keeps its record in a file
 of its own, `<name>.db`. A captured document and a `start` are kept whole or not at all, also where the
-machine crashes. `run` is kept step by step, and a crash in `init` may leave some of the files.
+machine crashes. `run` is kept step by step, and a crash in `init` or `copy` may leave some of the files.
 
   recall init chain sites.txt                    a file for each site of the list
   recall capture chain dairy monday.json         a site captures documents of events
@@ -63,6 +63,7 @@ machine crashes. `run` is kept step by step, and a crash in `init` may leave som
   recall run chain                               all sites run, and recalls go from site to site
   recall report chain dairy#1                    what is quarantined, how it came there, what left
   recall audit chain                             whether all is consistent; lists all recalls
+  recall copy chain friday                       a backup of all sites, in a folder that is there
 
 Questions that change nothing:
 
@@ -155,7 +156,7 @@ line printed with the EPC behind it, before the next one is started. With `--fro
 a file (`-` is the standard input), and behind each line of the answer stand the file and the line's number.
 An item that is refused doesn't stop the others. A last line has the totals.
 With `--key` the item is given as this program prints it, with `--scan` as a scanner gives it: a list of GS1
-element strings with a GTIN (01) and a serial number (21), or an SSCC (00), in brackets or not.
+element strings with a GTIN (01) and a serial number (21) or a lot (10), or an SSCC (00), in brackets or not.
 
 Examples:
   recall start chain dairy urn:epc:id:sgtin:0614141.112345.400 --dry-run
@@ -192,7 +193,8 @@ pub(crate) const REPORT_EXAMPLE: &str = "\
 A recall is named by its site and its number there, as dairy#1; `recall status` lists all recalls. Behind
 each quarantined item stand the steps that lead to it from the recalled one; with `--brief` it has the last
 step alone, in its own line. With `--events` stand behind each step the events that relate its two items:
-`by <number> <eventID> <time> shipped`, or `made`, which are two where they are two parts of a transformation.
+`by <number> <eventID> <time> shipped`, or `made`, which are two where they are two parts of a transformation;
+and behind each shipment that left the first event that shows it, `shipped in <item>` where it left in that.
 
 With `--csv` each quarantined item and each shipment that left is a row of a table for a spreadsheet, with
 the step before it; with `--csv-guarded` a cell that a spreadsheet might take for a formula has an apostrophe
@@ -229,7 +231,7 @@ Prints `pair <site> <item>` for each item at a site that was made from the one a
 the steps that lead to it, `outside` for each shipment of them that left the traced sites, and a total. With
 `--back`: each item at a site that went into the one asked for, the steps from it, and `origin` for those
 that come from nowhere among the traced sites. With `--brief` each has one step, in its own line, and with
-`--events` stand behind each step the events that relate its two items, as in `recall report`. Nothing is
+`--events` stand behind each step and each shipment that left its events, as in `recall report`. Nothing is
 recalled, and no file is changed.
 
 With `--csv` it is a table for a spreadsheet, with a row for each item at a site and one for each shipment
@@ -296,6 +298,20 @@ Example:
   recall coverage chain
 
 Status: 0 done, 3 a fault.";
+
+pub(crate) const COPY_ABOUT: &str =
+    "Copies the records of all sites to another folder: a backup of one moment";
+
+pub(crate) const COPY_EXAMPLE: &str = "\
+The other folder has to be there, and to have no list and no file of a site: `refused Exists <name>`. All
+sites' files are open together meanwhile, and each is read and checked as by any command. What is recorded
+stays as it is. A file of the copy is made anew from its site's record, and the list is written last, so a
+copy that was stopped in the middle has none: remove its files, and begin again.
+
+Example:
+  mkdir friday && recall copy chain friday
+
+Status: 0 done, 1 refused, 3 a fault.";
 
 pub(crate) const PACKS_ABOUT: &str =
     "Prints the packings by which sites close their packed gaps, as documents to capture";
@@ -364,14 +380,15 @@ each lot of a list of quantities stands among the items of the list, by its one 
 https://id.gs1.org/01/<gtin>/10/<lot>, and so does each lot that an event names among its items; an event of which an
 element has no lot stays as it is. A lot that the `ilmd` of an event names leads to the units that the event brings
 forth, by an event behind it. With `--links` a unit that is given by a Digital Link on any host, or by element strings
-in brackets, becomes its link on id.gs1.org.
+in brackets, becomes its link on id.gs1.org. An event with a list of more than 1,000 items becomes parts, and a
+document of more than 1,000 events becomes several, unless these would repeat much.
 
 The error stream tells what is no document, `refused Doc Syntax` or `NotDocument` with the file and the line, and
-then an account, as `note: written 1 events 3 links 0 lots 2 derived 1 untied 0 left 0`: the documents, their events,
-events of which a link was written otherwise, lots among the items, events from a lot to its units, events with too
-many lots or units and without such an event, and events that still have quantities, with which a capture refuses
-them. Ask for `--lots` and `--links` from the first capture of a folder on: an event that was captured without them is
-another one with them.
+then an account, as `note: written 1 events 3 links 0 lots 2 derived 1 untied 0 parted 0 left 0`: the documents, their
+events, events of which a link was written otherwise, lots among the items, events from a lot to its units, events with
+too many lots or units and without such an event, events that became parts, and events that still have quantities, with
+which a capture refuses them. Ask for `--lots` and `--links` from the first capture of a folder on: an event that was
+captured without them is another one with them.
 
 Examples:
   recall convert answer-of-a-query.json | recall capture chain dairy - --lines

@@ -1,6 +1,7 @@
 //! What the words of a command line of `recall` ask for, and how it ends.
 #![tactic(auto)]
 
+mod arguments;
 mod asked;
 mod batch_commands;
 mod command_lines;

@@ -74,7 +74,7 @@ fn first_other<R: Threads + Wait + Clock + Sync>(
 }
 
 /// Each command before a recall is begun, in each form that it has, and faults and refusals.
-const BEFORE: [Row; 26] = [
+const BEFORE: [Row; 28] = [
     ("recall sim", 1, "refused NoWorld\n", ""),
     ("recall sim --help", 0, "Runs a script", ""),
     ("recall -hx", 0, "Traces recalled", ""),
@@ -101,6 +101,13 @@ const BEFORE: [Row; 26] = [
     ("recall init d list", 0, "", ""),
     (
         "recall init d list --json",
+        1,
+        "{\"name\":\"A\",\"refused\":\"Exists\"}\n",
+        "",
+    ),
+    ("recall copy d e", 0, "", ""),
+    (
+        "recall copy d e --json",
         1,
         "{\"name\":\"A\",\"refused\":\"Exists\"}\n",
         "",

@@ -1,4 +1,7 @@
 pub mod BatchLemmas
+pub mod Closings
+pub mod CopyLaws
+pub mod CopyLemmas
 pub mod DocumentLemmas
 pub mod InputLemmas
 pub mod LintLemmas

@@ -108,7 +108,7 @@ nil_parts : {A : Type 0} (xs ys : List A) → xs ++ ys ≡ [] → (xs ≡ []) ×
 nil_parts [] ys is = (refl, is)
 nil_parts (x ∷ xs) ys is = absurd (let none : ⊥ = cc in none)
 
-none_exist : (names : List (List ℕ)) (refused : List CommandRefusal) → refused ≡ [] → AllZip IsExists names refused → names ≡ []
+pub none_exist : (names : List (List ℕ)) (refused : List CommandRefusal) → refused ≡ [] → AllZip IsExists names refused → names ≡ []
 none_exist [] refused none all = refl
 none_exist (name ∷ names) refused none all = absurd (subst (λ rs. AllZip IsExists (name ∷ names) rs) none all)
 
@@ -127,7 +127,7 @@ module _ {F K : Type 0} (does : F → FileCall K → F → Type 0) (folder : Lis
   out_then shown old new calls asks led = record { calls = calls; are = ran_out shown folder NoMemory calls refl asks; led = led }
 
   -- the folder's list was looked for and not found, where nothing is refused then
-  list_free : (before refused : List CommandRefusal) (old new : F) → refused ≡ [] → Led does old new (LooksForList folder before refused)
+  pub list_free : (before refused : List CommandRefusal) (old new : F) → refused ≡ [] → Led does old new (LooksForList folder before refused)
       → (before ≡ []) × Calls does old (LookedFor (list_path folder) false ∷ []) new
   list_free [] refused old new none led = (refl, by_found led.are.0 led.are.1 led.are.2) where
     by_found : (found : Bool) → AllZip IsExists (name_where found (codes "sites")) refused → led.calls ≡ LookedFor (list_path folder) found ∷ []

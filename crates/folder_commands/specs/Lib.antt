@@ -1,4 +1,6 @@
 pub mod Batches
+pub mod CopyLaws
+pub mod Copying
 pub mod Inputs
 pub mod Lints
 pub mod Making

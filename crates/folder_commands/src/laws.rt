@@ -1,6 +1,15 @@
-//! Laws of the notes of a run, each named by a function with an empty body whose contract is the law.
+//! Laws of a copy and of the notes of a run, each named by a function with an empty body whose contract is the law.
 
+ghost use Rattle.folder_commands.specs.CopyLaws.{HoldsTheSame};
 ghost use Rattle.folder_commands.specs.NoteLaws.{EachStopIsTold, OnlyStoppedAreNamed};
+
+use keeper_core::SiteKeeper;
+
+/// A copy holds, site by site, the records that the folder's files showed together, where each of its files shows the
+/// record that it was made in.
+pub fn a_copy_holds_the_same<K: SiteKeeper>()
+    ensures { HoldsTheSame K.shown K.stored }
+{}
 
 /// A site is named only where it stopped.
 pub fn only_sites_that_stopped_are_named()

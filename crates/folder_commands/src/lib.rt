@@ -1,11 +1,12 @@
-//! Commands that change the sites' files in a folder: making them, capturing documents, starting recalls, and a run of
-//! all sites; and lints of documents, which change nothing.
+//! Commands that change the sites' files in a folder: making them, copying them, capturing documents, starting recalls,
+//! and a run of all sites; and lints of documents, which change nothing.
 //!
 //! What a command comes to is an [`Output`](recall_outcomes::Output). What comes of several inputs or documents is told
 //! one after another, to an [`InputSink`] or a [`LintSink`].
 #![tactic(auto)]
 
 mod batches;
+mod copies;
 mod inputs;
 pub mod laws;
 mod lints;
@@ -18,6 +19,7 @@ mod untraced;
 mod words;
 
 pub use batches::{BatchCame, BatchOutput, InputSink, take_inputs};
+pub use copies::copy;
 pub use inputs::InputNotes;
 pub use lints::{LintCame, LintOutput, LintSink, lint_documents};
 pub use making::init;

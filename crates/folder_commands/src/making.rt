@@ -105,8 +105,8 @@ pub(crate) fn push_few(sites: &Sites, refusals: &mut Vec<CommandRefusal>) -> Res
     Ok(())
 }
 
-/// Adds a refusal for each site that has a file.
-fn push_existing<K: SiteKeeper, F: Files<K>>(
+/// Adds a refusal for each site that has a file in the folder.
+pub(crate) fn push_existing<K: SiteKeeper, F: Files<K>>(
     alloc: Global,
     files: &mut F,
     folder: &str,
@@ -118,8 +118,8 @@ fn push_existing<K: SiteKeeper, F: Files<K>>(
         × (length found ≡ length sites.now) × (more : List CommandRefusal)
         × AllZip IsExists (existing sites.now 0 found) more
         × (refusals.new.items ≡ refusals.old.items ++ more)) }
-    ensures failed { IfErr result (λ fault.
-        Led F.does files.old files.new (EndsInVain K.shown folder.now fault)) }
+    ensures failed { (of : List ℕ) → IfErr result (λ fault.
+        Led F.does files.old files.new (EndsInVain K.shown of fault)) }
 {
     for number in 0..sites.len() {
         let Some(site) = SiteNo::of(number) else {
@@ -132,7 +132,7 @@ fn push_existing<K: SiteKeeper, F: Files<K>>(
 }
 
 /// Where nothing is refused, adds the refusal of a list of sites that stands in the folder.
-fn push_list<K: SiteKeeper, F: Files<K>>(
+pub(crate) fn push_list<K: SiteKeeper, F: Files<K>>(
     alloc: Global,
     files: &mut F,
     folder: &str,
@@ -140,8 +140,8 @@ fn push_list<K: SiteKeeper, F: Files<K>>(
 ) -> Result<(), Fault>
     ensures looked { OnOk result (Led F.does files.old files.new
         (LooksForList folder.now refusals.old.items refusals.new.items)) }
-    ensures failed { IfErr result (λ fault.
-        Led F.does files.old files.new (EndsInVain K.shown folder.now fault)) }
+    ensures failed { (of : List ℕ) → IfErr result (λ fault.
+        Led F.does files.old files.new (EndsInVain K.shown of fault)) }
 {
     if refusals.is_empty() {
         let path = list_path(alloc, folder)?;
@@ -162,8 +162,8 @@ fn push_where<K: SiteKeeper, F: Files<K>>(
         × F.does files.old (LookedFor path.now found) files.new × (more : List CommandRefusal)
         × AllZip IsExists (name_where found name.now) more
         × (refusals.new.items ≡ refusals.old.items ++ more)) }
-    ensures failed { (folder : List ℕ) → IfErr result (λ fault.
-        Led F.does files.old files.new (EndsInVain K.shown folder fault)) }
+    ensures failed { (of : List ℕ) → IfErr result (λ fault.
+        Led F.does files.old files.new (EndsInVain K.shown of fault)) }
 {
     if files.exists(path)? {
         let name = String::from_str(alloc, name)?;

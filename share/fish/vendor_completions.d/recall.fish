@@ -91,3 +91,7 @@ complete -c recall -n __fish_use_subcommand -f -a coverage -d 'Tells what each s
 complete -c recall -n '__fish_seen_subcommand_from coverage' -l json -d 'Print JSON, an object a line'
 complete -c recall -n '__fish_seen_subcommand_from coverage' -l wait -x -d 'Wait so long for a site\'s file that another program has open, 0 to 86400 [default: 0]'
 complete -c recall -n '__fish_seen_subcommand_from coverage' -l help -d 'Print help'
+complete -c recall -n __fish_use_subcommand -f -a copy -d 'Copies the records of all sites to another folder: a backup of one moment'
+complete -c recall -n '__fish_seen_subcommand_from copy' -l json -d 'Print JSON, an object a line'
+complete -c recall -n '__fish_seen_subcommand_from copy' -l wait -x -d 'Wait so long for a site\'s file that another program has open, 0 to 86400 [default: 0]'
+complete -c recall -n '__fish_seen_subcommand_from copy' -l help -d 'Print help'

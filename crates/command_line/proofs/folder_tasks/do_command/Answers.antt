@@ -8,6 +8,7 @@ use Rattle.recall_outcomes.specs.declared.outcomes.Outcome.{Outcome}
 use Rattle.site_folders.specs.FileCalls.{Led}
 use Rattle.site_folders.specs.Questions.{AsksAll, AsksSite}
 use Rattle.site_folders.specs.Refusals.{IsNoSite}
+use Rattle.site_folders.proofs.CallsInTurn.{handed_on}
 use Rattle.folder_questions.specs.Asked.{AsksItem, AsksRecall, RefusesItem, RefusesRecall}
 use Rattle.folder_questions.specs.Audits.{AnswersAudit}
 use Rattle.folder_questions.specs.Contents.{AnswersContents}
@@ -30,8 +31,16 @@ returns-in-Run-clause-failed g c = rw c.in-Run.is c.run_sites.ensures.failed
 pub returns-in-Init-clause-failed : goal.returns-in-Init-clause-failed
 returns-in-Init-clause-failed g c = rw c.in-Init.is c.init.ensures.failed
 
+pub returns-in-Copy-clause-failed : goal.returns-in-Copy-clause-failed
+returns-in-Copy-clause-failed g c = rw c.in-Copy.is c.copy.ensures.failed
+
 pub returns-in-Capture-clause-failed : goal.returns-in-Capture-clause-failed
 returns-in-Capture-clause-failed g c = rw c.in-Capture.is c.capture.ensures.failed
+
+pub returns-in_err-first-in-Start-clause-failed : goal.returns-in_err-first-in-Start-clause-failed
+returns-in_err-first-in-Start-clause-failed g c =
+    let fails = c.from_residual-in_err-first-in-Start in
+    rw (c.in-Start.is, c.if-dry.false) (handed_on fails.result _ _ fails.ensures.1 c.in_err-first-in-Start.ensures.failed)
 
 pub returns-after-dry-clause-led : goal.returns-after-dry-clause-led
 returns-after-dry-clause-led g c =

@@ -28,4 +28,5 @@ returns c =
     let twelfth = adds_command _ _ _ _ _ c.in_ok-subcommand-11.ensures eleventh c.in_ok-gaps.ensures refl in
     let thirteenth = adds_command _ _ _ _ _ c.in_ok-subcommand-12.ensures twelfth c.in_ok-packs.ensures refl in
     let fourteenth = adds_command _ _ _ _ _ c.in_ok-subcommand-13.ensures thirteenth c.in_ok-convert.ensures refl in
-    IfOk-weaker c.subcommand-15.result _ _ (λ command adds. adds_command _ _ command _ _ adds fourteenth c.in_ok-coverage.ensures refl) c.subcommand-15.ensures
+    let fifteenth = adds_command _ _ _ _ _ c.in_ok-subcommand-14.ensures fourteenth c.in_ok-coverage.ensures refl in
+    IfOk-weaker c.subcommand-16.result _ _ (λ command adds. adds_command _ _ command _ _ adds fifteenth c.in_ok-copy.ensures refl) c.subcommand-16.ensures

@@ -46,7 +46,7 @@ returns-in_err-push_few-clause-failed g c =
 pub returns-in_err-push_existing-clause-failed : goal.returns-in_err-push_existing-clause-failed
 returns-in_err-push_existing-clause-failed g c =
     handed_on c.from_residual-in_err-push_existing.result _ _ c.from_residual-in_err-push_existing.ensures.1
-    (led_so g.F.Files.does _ _ (λ calls vain. inl vain) c.in_err-push_existing.ensures.failed)
+    (led_so g.F.Files.does _ _ (λ calls vain. inl vain) (c.in_err-push_existing.ensures.failed c.args.folder.now))
 
 pub returns-in_err-push_list-clause-failed : goal.returns-in_err-push_list-clause-failed
 returns-in_err-push_list-clause-failed g c =
@@ -54,7 +54,7 @@ returns-in_err-push_list-clause-failed g c =
     let sites = c.args.list.now.sites in
     handed_on c.from_residual-in_err-push_list.result _ _ c.from_residual-in_err-push_list.ensures.1
     (led_so g.F.Files.does _ _ (λ calls vain. inl vain)
-    (vain_then g.F.Files.does c.args.folder.now g.K.SiteKeeper.shown _ _ _ _ (looks_from c.args.folder.now sites 0 found) (looks_ask c.args.folder.now sites 0 found) looked c.in_err-push_list.ensures.failed))
+    (vain_then g.F.Files.does c.args.folder.now g.K.SiteKeeper.shown _ _ _ _ (looks_from c.args.folder.now sites 0 found) (looks_ask c.args.folder.now sites 0 found) looked (c.in_err-push_list.ensures.failed c.args.folder.now)))
 
 pub returns-in_err-make_folder-clause-failed : goal.returns-in_err-make_folder-clause-failed
 returns-in_err-make_folder-clause-failed g c =

@@ -46,15 +46,15 @@ loop-number-preserved g c =
     )
 
 pub returns-in_err-path-clause-failed : goal.returns-in_err-path-clause-failed
-returns-in_err-path-clause-failed g c =
+returns-in_err-path-clause-failed g c = λ of.
     let before = c.loop-number.invariant.0 in
     let looks = looks_from c.args.folder.now c.args.sites.now 0 before.0 in
     handed_on c.from_residual.result _ _ c.from_residual.ensures.1
-    (out_then g.F.Files.does c.args.folder.now g.K.SiteKeeper.shown _ _ looks (looks_ask c.args.folder.now c.args.sites.now 0 before.0) before.1)
+    (out_then g.F.Files.does of g.K.SiteKeeper.shown _ _ looks (looks_ask c.args.folder.now c.args.sites.now 0 before.0) before.1)
 
 pub returns-in_err-push_where-clause-failed : goal.returns-in_err-push_where-clause-failed
-returns-in_err-push_where-clause-failed g c =
+returns-in_err-push_where-clause-failed g c = λ of.
     let before = c.loop-number.invariant.0 in
     let looks = looks_from c.args.folder.now c.args.sites.now 0 before.0 in
     handed_on c.from_residual-in_err-push_where.result _ _ c.from_residual-in_err-push_where.ensures.1
-    (vain_then g.F.Files.does c.args.folder.now g.K.SiteKeeper.shown _ _ _ _ looks (looks_ask c.args.folder.now c.args.sites.now 0 before.0) before.1 (c.in_err-push_where.ensures.failed c.args.folder.now))
+    (vain_then g.F.Files.does of g.K.SiteKeeper.shown _ _ _ _ looks (looks_ask c.args.folder.now c.args.sites.now 0 before.0) before.1 (c.in_err-push_where.ensures.failed of))

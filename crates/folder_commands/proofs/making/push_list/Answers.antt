@@ -31,9 +31,9 @@ returns-in_ok-push_where-clause-looked g c =
     })
 
 pub returns-in_err-path-clause-failed : goal.returns-in_err-path-clause-failed
-returns-in_err-path-clause-failed g c =
-    handed_on c.from_residual.result _ _ c.from_residual.ensures.1 (out_then g.F.Files.does c.args.folder.now g.K.SiteKeeper.shown _ _ [] none_asks refl)
+returns-in_err-path-clause-failed g c = λ of.
+    handed_on c.from_residual.result _ _ c.from_residual.ensures.1 (out_then g.F.Files.does of g.K.SiteKeeper.shown _ _ [] none_asks refl)
 
 pub returns-in_err-push_where-clause-failed : goal.returns-in_err-push_where-clause-failed
-returns-in_err-push_where-clause-failed g c =
-    handed_on c.from_residual-in_err-push_where.result _ _ c.from_residual-in_err-push_where.ensures.1 (c.in_err-push_where.ensures.failed c.args.folder.now)
+returns-in_err-push_where-clause-failed g c = λ of.
+    handed_on c.from_residual-in_err-push_where.result _ _ c.from_residual-in_err-push_where.ensures.1 (c.in_err-push_where.ensures.failed of)
