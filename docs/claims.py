@@ -166,21 +166,18 @@ def edits(crate):
                 yield path, f'crates/{crate}/{file}', rest
 
 
-def purpose(crate):
-    """The first paragraph of a crate's root file."""
-    lines = re.match(r'(?://!.*\n)+', read(f'crates/{crate}/src/lib.rt')).group(0).split('\n//!\n')[0].split('\n')
-    return without_links(' '.join(line[3:].strip() for line in lines).strip())
-
-
 def stated(crate, names):
-    """Definitions by their files, as sources name them: `Turns.{Runs, Turns}`. Other crates' stand only where none is its own."""
-    files = {}
+    """The names of definitions, those of other crates only where none is its own: `Runs`, `world_core.Runs`. Where several
+    files of a crate define a name, its file stands before it, too."""
+    out = []
     own = {name: file for name, file in names.items() if f'crates/{crate}/specs/' in file}
     for name, file in (own or names).items():
-        assert re.search(DEFINED % re.escape(name), read(file)), f'{file} defines no {name}'
+        defined = re.compile(DEFINED % re.escape(name))
+        assert defined.search(read(file)), f'{file} defines no {name}'
         owner, module = file.removeprefix('crates/').removesuffix('.antt').split('/specs/')
-        files.setdefault(module if owner == crate else f'{owner}.{module}', []).append(name)
-    return ', '.join(f'{file}.{{{", ".join(names)}}}' if len(names) > 1 else f'{file}.{names[0]}' for file, names in files.items())
+        several = sum(bool(defined.search(read(other))) for other in found(f'crates/{owner}/specs/*.antt')) > 1
+        out.append('.'.join([owner] * (owner != crate) + [module] * several + [name]))
+    return ', '.join(out)
 
 
 def entry(crate, one, claims, pins):
@@ -189,7 +186,7 @@ def entry(crate, one, claims, pins):
     for words, labels, _, _, by in claims:
         *above, last = re.sub(r'Not covered: ((?:(?!<br>).)*)', r'*Not covered: \1*', words).split('<br>')
         marks = ', '.join(label for label in labels if label != 'ensures' and not one.is_law)
-        by = pins and f' Pins `{pins}`.' if one.is_law else by and f' By `{stated(crate, by)}`.'
+        by = pins and f' Pins `{pins}`.' if one.is_law else by and not marks and f' By `{stated(crate, by)}`.'
         rows += [('', text, '') for text in above] + [(marks and f'`{marks}`', last, by or '')]
     if len(rows) == 1:
         marks, words, by = rows[0]
@@ -206,8 +203,20 @@ def mutants(crate):
         known = folders.setdefault(folder, {})
         known[name] = title or known.get(name)
     for folder, names in folders.items():
-        of = ', '.join(f'`{name}`{f" of `{title}`" if title else ""}' for name, title in names.items())
-        yield f'- [{"in turn" if folder.startswith("tests") else "in each run of CI"}](../../{folder}): {of}'
+        titles = {}
+        for name, title in names.items():
+            titles.setdefault(title, []).append(name)
+        of = '; '.join(f'`{", ".join(names)}`{f" of `{title}`" if title else ""}' for title, names in titles.items())
+        yield f'Mutants refused {"in turn" if folder.startswith("tests") else "in each run of CI"}: {of}'
+
+
+def together(titles):
+    """Paths, those of one type or module as in a `use`: `Files::{read, write}`."""
+    owners = {}
+    for title in titles:
+        owner, _, name = title.rpartition('::')
+        owners.setdefault(owner, []).append(name)
+    return ', '.join(f'{owner}::{", ".join(names) if len(names) < 2 else "{" + ", ".join(names) + "}"}' for owner, names in owners.items())
 
 
 def page(crate):
@@ -232,15 +241,15 @@ def page(crate):
     if not public and not plain:
         return None
     own = {name for name in own if sum(name in of for of in pinned.values()) <= MOST_LAWS}
-    out = [f'# Claims of `{crate}`', '', f'{purpose(crate)} [How to read this](../PROOFS.md#how-to-read-the-claims).', '']
+    out = [f'# Claims of [`{crate}`](../../crates/{crate})', '', '[How to read them](../PROOFS.md)', '']
     for path in sorted(public, key=lambda path: (path.endswith('laws.rt'), path)):
-        out += [f'## [{stem(path)}](../../{path})', '']
+        out += [f'## {stem(path)}']
         for one, claims in public[path]:
             out += entry(crate, one, claims, ', '.join(sorted(own & pinned[one.name])) if one.is_law else '')
         out += ['']
-    out += ['## Claimed by doc comments', '', f'`{", ".join(plain)}`', ''] if plain else []
-    refused = list(mutants(crate))
-    out += ['## Mutants that the check refuses', '', *refused, ''] if refused else []
+    out += [f'Claimed by doc comments: `{together(plain)}`', ''] if plain else []
+    for line in mutants(crate):
+        out += [line, '']
     return '\n'.join(out)
 
 

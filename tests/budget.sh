@@ -10,9 +10,10 @@
 #
 # It fails where a crate became half as dear again: where it takes more than 1.5 times its line of the table, and a minute
 # more. A slow host makes no crate dearer: all lines of the table are first multiplied by one number, the middle one of what
-# the crates of more than a minute took by their lines. So what counts is what a crate takes beside the others. Where a crate
-# has to be dearer, its line is changed with it. A figure behind `~` and one that is `?` weren't measured on this tree, and are
-# compared with nothing.
+# the crates took by their lines. So what counts is what a crate takes beside the others. What an earlier run of `rt ci` kept
+# takes next to nothing, so crates of less than a minute don't count for that number, and where fewer than eight are left
+# nothing is compared. Where a crate has to be dearer, its line is changed with it. A figure behind `~` and one that is `?`
+# weren't measured on this tree, and are compared with nothing.
 set -u
 cd "$(dirname "$0")/.." || exit 2
 exec python3 - "$@" <<'PYTHON'
@@ -28,6 +29,7 @@ KINDS = ('Proof', 'Tests', 'Edits')
 HEAD = '| Crate | Proof | Tests | Edits | Memory |'
 DOCUMENT = 'docs/ARCHITECTURE.md'
 TICKS = os.sysconf('SC_CLK_TCK')
+FEWEST = 8
 
 
 def read(path):
@@ -65,10 +67,11 @@ def written(figures, memory):
 def complaints(figures, table):
     """Which crates are half as dear again as their lines say."""
     whole = lambda line: None if None in line else sum(line)
-    ratios = [sum(it) / whole(table[crate]) for crate, it in figures.items() if (whole(table.get(crate, [None])) or 0) > 1]
-    if not ratios:
-        print(f'{DOCUMENT} has no figures to compare with', file=sys.stderr)
+    done = [it for it in figures if sum(figures[it]) > 1 and (whole(table.get(it, [None])) or 0) > 1]
+    if len(done) < FEWEST:
+        print(f'{len(done)} crates took more than a minute and have figures in {DOCUMENT}: too few to compare', file=sys.stderr)
         return
+    ratios = [sum(figures[it]) / whole(table[it]) for it in done]
     scale = statistics.median(ratios)
     print(f'by the middle of {len(ratios)} crates this run takes {scale:.2f} times the minutes of {DOCUMENT}', file=sys.stderr)
     for crate, minutes in figures.items():

@@ -162,6 +162,8 @@ class Chains:
         for _ in range(20):
             if must("run", self.ended) == b"plant#1 ended\n":
                 break
+        self.holding = copy(self.started, work / "holding")
+        (self.holding / "copy").mkdir()
         # two sites and one message, for the long lists of a run's calls
         self.two = work / "two"
         self.two.mkdir()
@@ -246,6 +248,7 @@ def commands(chains):
         Command("items-in", "question", chains.whole, ["items", "@", "plant", "--in", TANK, "11"], []),
         Command("items-in-key", "question", chains.whole, ["items", "@", "plant", "--in", TANK_KEY, "--key"], []),
         Command("items-in-scan", "question", chains.whole, ["items", "@", "plant", "--in", TANK_SCAN, "--scan", "--json"], []),
+        Command("copy", "copy", chains.holding, ["copy", "--wait", "1", "--json", "@", "@/copy"], []),
         Command("coverage", "question", chains.ended, ["coverage", "@"], []),
         Command("coverage-json", "question", chains.whole, ["coverage", "--wait", "1", "--json", "@"], []),
         Command("items-json", "question", chains.whole, ["items", "--wait", "1", "--json", "@", "plant"], []),
@@ -363,6 +366,9 @@ class Judge:
                 if found["event"] != before[site]["event"] or found["part"] != before[site]["part"] or len(found["recall"]) != len(before[site]["recall"]):
                     return "between", f"the run changed events or recalls of {site}"
             return "between", None
+        copied = self.folder / "copy"
+        if self.command.kind == "copy" and (copied / "sites").exists() and record(copied) != self.states[0]:
+            return "copied", "a list beside files that are no copy"
         places = [n for n, it in enumerate(self.states) if it == now]
         if not places:
             third = [s for s in {*now, *self.states[0]} if now.get(s) not in [it.get(s) for it in self.states]]

@@ -45,6 +45,9 @@ def inputs():
     yield "2 MB of objects `{\"a\":0}` in such a member", bare % ("[" + ",".join(['{"a":0}'] * 250_000) + "]")
     yield "2 MB of empty arrays in such a member", bare % ("[" + ",".join(["[]"] * 700_000) + "]")
     yield "2 MB of numbers in such a member", bare % ("[" + ",".join(["0"] * 1_000_000) + "]")
+    long = '{"type":"ObjectEvent",%s,"action":"OBSERVE","epcList":[%s],"a":%s}'
+    yield "400,000 items beside 9,000 numbers", long % (T, ",".join(['"x"'] * 400_000), "[" + ",".join(["0"] * 9_000) + "]")
+    yield "400,000 items beside a text of 1 MB", long % (T, ",".join(['"x"'] * 400_000), '"' + "x" * 1_000_000 + '"')
     yield "127 arrays deep, 8,000 times", bare % ("[" + ",".join(["[" * 120 + "]" * 120] * 8_000) + "]")
     yield "1,000 events of 20 items of 512 bytes", document('{"type":"ObjectEvent",%s,"action":"OBSERVE","epcList":%s}' % (T, json.dumps([item(n * 20 + k) for k in range(20)])) for n in range(1000))
     many = [f"m{n}" for n in range(1000)]
@@ -114,6 +117,8 @@ def run(tally, setting, work):
         program("init", folder, work / "list")
         (work / "document").write_text(text)
         rest = [("capture", ["capture", folder, "A", work / "document"]), ("lint", ["lint", work / "list", work / "document"])]
+        if " items beside " in name:
+            rest = [("convert", ["convert", work / "document"])]
         if name in asked:
             rest += [("trace", ["trace", folder, "A", asked[name]]), ("start", ["start", folder, "A", asked[name]]), ("run", ["run", folder])]
         base = measured(["audit", folder])[2]
