@@ -259,7 +259,7 @@ def commands(chains):
         Command("lint", "question", chains.whole, ["lint", "@/sites", f / "lines", f / "each", "--site", "plant"], []),
         Command("lint-json", "question", chains.whole, ["lint", "--json", "--max-bytes", "1000000", "@/sites", f / "each"], []),
         Command("convert", "question", chains.whole, ["convert", f / "lines", f / "each"], []),
-        Command("convert-lots", "question", chains.whole, ["convert", "--lots", "--links", "--json", "--max-bytes", "1000000", f / "lines"], []),
+        Command("convert-lots", "question", chains.whole, ["convert", "--lots", "--links", "--keep-errors", "--json", "--max-bytes", "1000000", f / "lines"], []),
         Command("help", "question", chains.whole, ["help", "run"], []),
         Command("help-option", "question", chains.whole, ["run", "--help"], []),
         Command("version", "question", chains.whole, ["--version"], []),

@@ -186,7 +186,9 @@ lint = with_rule (with_rule (with_rule (with_rule (with_rule (new_app (codes "li
 
 -- it needs neither
 abbrev pub convert : App
-convert = with_rule (with_rule (with_rule (with_rule (with_rule (new_app (codes "convert")) files) (flag (codes "json"))) (flag (codes "lots"))) (flag (codes "links"))) max_bytes
+convert =
+    with_rule (with_rule (with_rule (with_rule (with_rule (with_rule (new_app (codes "convert")) files) (flag (codes "json"))) (flag (codes "lots"))) (flag (codes "links"))) (flag (codes "keep-errors")))
+    max_bytes
 
 -- `recall` itself, which has to have one of them
 abbrev pub needing : App → App
@@ -403,6 +405,7 @@ pub record IsConvert (asked : ConvertFiles) (rows : List Row) : Type 0 where
   pub files : all_of (codes "file") rows ≡ Some (map (λ path. path.now) asked.paths.items)
   pub lots : IsTrue asked.ways.lots ↔ IsSet rows (codes "lots")
   pub links : IsTrue asked.ways.links ↔ IsSet rows (codes "links")
+  pub errors : IsTrue asked.ways.errors ↔ IsSet rows (codes "keep-errors")
   pub most : GivesMost rows asked.most
   pub form : GivesForm rows asked.form
 

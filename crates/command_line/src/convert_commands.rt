@@ -54,7 +54,12 @@ pub(crate) fn convert_command<'a>(
     ensures { IfSome result (IsConvertCommand (rows_of (found_of given.now))) }
 {
     let (lots, links) = (is_set(given, "lots"), is_set(given, "links"));
-    let ways = Conversion { lots, links };
+    let errors = is_set(given, "keep-errors");
+    let ways = Conversion {
+        lots,
+        links,
+        errors,
+    };
     let most = most_of(given)?;
     let paths = given.get_strs("file")?;
     let paths = copied(alloc, paths).ok()?;

@@ -258,5 +258,10 @@ fn convert<'a>(alloc: Global) -> Result<Command<'a>, AllocError>
             "links",
             "Write units of links on any host, and of element strings, on id.gs1.org",
         ))?
+        .arg(flag(
+            alloc,
+            "keep-errors",
+            "Keep events that were declared to be errors, without their errorDeclaration",
+        ))?
         .arg(max_bytes(alloc))
 }

@@ -380,15 +380,17 @@ each lot of a list of quantities stands among the items of the list, by its one 
 https://id.gs1.org/01/<gtin>/10/<lot>, and so does each lot that an event names among its items; an event of which an
 element has no lot stays as it is. A lot that the `ilmd` of an event names leads to the units that the event brings
 forth, by an event behind it. With `--links` a unit that is given by a Digital Link on any host, or by element strings
-in brackets, becomes its link on id.gs1.org. An event with a list of more than 1,000 items becomes parts, and a
-document of more than 1,000 events becomes several, unless these would repeat much.
+in brackets, becomes its link on id.gs1.org. With `--keep-errors` an event that was declared to be an error is written
+without its `errorDeclaration`, with which a capture refuses it: a recall follows what it says. An event with a list of
+more than 1,000 items becomes parts, and a document of more than 1,000 events becomes several, unless these would repeat
+much.
 
 The error stream tells what is no document, `refused Doc Syntax` or `NotDocument` with the file and the line, and
-then an account, as `note: written 1 events 3 links 0 lots 2 derived 1 untied 0 parted 0 left 0`: the documents, their
-events, events of which a link was written otherwise, lots among the items, events from a lot to its units, events with
-too many lots or units and without such an event, events that became parts, and events that still have quantities, with
-which a capture refuses them. Ask for `--lots` and `--links` from the first capture of a folder on: an event that was
-captured without them is another one with them.
+then an account, as `note: written 1 events 3 links 0 lots 2 derived 1 untied 0 parted 0 errors 0 left 0`: the
+documents, their events, events of which a link was written otherwise, lots among the items, events from a lot to its
+units, events with too many lots or units and without such an event, events that became parts, events that were declared
+to be errors and are kept, and events that still have quantities, with which a capture refuses them. Ask for `--lots`
+and `--links` from the first capture of a folder on: an event that was captured without them is another one with them.
 
 Examples:
   recall convert answer-of-a-query.json | recall capture chain dairy - --lines

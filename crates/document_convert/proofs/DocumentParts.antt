@@ -18,7 +18,7 @@ use Rattle.document_convert.specs.Types.{with_member}
 use Rattle.document_convert.proofs.Around.{around_type}
 use Rattle.document_convert.proofs.EventParts.{in_one}
 use Rattle.document_convert.proofs.Has.{cases, from_map, none_has}
-use Rattle.document_convert.proofs.LinkedLaws.{its_type}
+use Rattle.document_convert.proofs.EachLaws.{its_type}
 use Rattle.document_convert.proofs.Lists.{listed_back}
 use Rattle.document_convert.proofs.Members.{other_member}
 use Rattle.document_convert.proofs.NoLots.{alone_list, both_none, its_list}

@@ -24,7 +24,9 @@ pub mod RespelledLaws
 pub mod LineLemmas
 pub mod ConvertLemmas
 pub mod UnitLaws
+pub mod EachLaws
 pub mod LinkedLaws
+pub mod ErrorLaws
 pub mod UnitKeys
 pub mod LinkPaths
 pub mod UnitLinks

@@ -5,12 +5,9 @@ use Rattle.serde_json.specs.Find.{as_array}
 use Rattle.event_json.specs.Checks.{type_text}
 use Rattle.event_json.specs.Members.{count_of, member_named}
 use Rattle.event_json.specs.Untraced.{listed_events}
-use Rattle.document_convert.specs.Links.{link_of}
-use Rattle.document_convert.specs.Parted.{has_parts}
 use Rattle.document_convert.specs.Quantities.{has_quantities}
-use Rattle.document_convert.specs.Respelled.{spells_otherwise_by}
-use Rattle.document_convert.specs.UnitLots.{is_untied}
 use Rattle.document_convert.specs.declared.accounts.Account.{Account}
+use Rattle.document_convert.specs.declared.accounts.Counts.{Counts}
 
 -- a count rises by so many, and stays at the greatest number
 abbrev pub up : ℕ → ℕ → ℕ
@@ -45,38 +42,29 @@ quantities d = elements_from 0 (listed_events d)
 -- ---- all documents
 
 abbrev pub none_yet : Account
-none_yet = record { written = 0; events = 0; links = 0; lots = 0; derived = 0; untied = 0; parted = 0; left = 0 }
+none_yet = record { written = 0; events = 0; links = 0; lots = 0; derived = 0; untied = 0; parted = 0; errors = 0; left = 0 }
 
 -- how many events a document has
 abbrev pub event_count : Data → ℕ
 event_count d = length (listed_events d)
 
--- how many events of a document spell a unit otherwise than by its link, where that is asked for
-abbrev pub links_of : Bool → Data → ℕ
-links_of true d = count_by (spells_otherwise_by link_of) (listed_events d)
-links_of false d = 0
+-- how many events of a document are so, where that is asked for
+abbrev pub count_if : Bool → (Data → Bool) → Data → ℕ
+count_if true p d = count_by p (listed_events d)
+count_if false p d = 0
 
--- how many events of a document have more lots of units than are tied to these, where that is asked for
-abbrev pub untied_of : Bool → Data → ℕ
-untied_of true d = count_by is_untied (listed_events d)
-untied_of false d = 0
-
--- how many events of a document become parts, where it is parted
-abbrev pub parted_if : Bool → Data → ℕ
-parted_if true d = count_by has_parts (listed_events d)
-parted_if false d = 0
-
--- with a document that had so many quantities, events, events with units as links now, events with too many lots, and events that become parts,
--- as it is before they do: each of the quantities that isn't left is a lot among the items, and each event more was derived
-abbrev pub with_document : Account → ℕ → ℕ → ℕ → ℕ → ℕ → Data → Account
-with_document a had came linked untied parted d = record {
+-- with a document of which this was counted, as it is before its long lists are parted: each of the quantities that it had and that isn't left
+-- is a lot among the items, and each event more than it came with was derived
+abbrev pub with_document : Account → Counts → Data → Account
+with_document a counts d = record {
   written = a.written;
   events = a.events;
-  links = up a.links linked;
-  lots = up a.lots (had - quantities d);
-  derived = up a.derived (event_count d - came);
-  untied = up a.untied untied;
-  parted = up a.parted parted;
+  links = up a.links counts.links;
+  lots = up a.lots (counts.had - quantities d);
+  derived = up a.derived (event_count d - counts.came);
+  untied = up a.untied counts.untied;
+  parted = up a.parted counts.parted;
+  errors = up a.errors counts.errors;
   left = up a.left (count_by has_quantities (listed_events d));
 }
 
@@ -90,6 +78,7 @@ with_line a d = record {
   derived = a.derived;
   untied = a.untied;
   parted = a.parted;
+  errors = a.errors;
   left = a.left;
 }
 

@@ -1,17 +1,22 @@
 -- What is written of a text: the documents that it holds, a line each, and what is told of the rest.
-use Rattle.std.specs.Prelude.{◌≡◌, ◌≤◌, ℕ, Bool, true, false, List, [], ◌∷◌, ◌++◌, Ok, Err, Some, map, string_bytes}
+use Rattle.std.specs.Prelude.{◌≡◌, ◌≤◌, if◌then◌else◌, ℕ, Bool, true, false, List, [], ◌∷◌, ◌++◌, Ok, Err, Some, map, string_bytes}
 use Rattle.std.specs.List.{flat_map}
 use Rattle.json.specs.Lex.{tokens}
 use Rattle.json.specs.Print.{print}
 use Rattle.serde_json.specs.Data.{Data, depth}
 use Rattle.serde_json.specs.Read.{max_depth, read}
-use Rattle.document_convert.specs.Accounts.{event_count, links_of, none_yet, parted_if, quantities, untied_of, with_document, with_lines}
+use Rattle.document_convert.specs.Accounts.{count_if, event_count, none_yet, quantities, with_document, with_lines}
+use Rattle.document_convert.specs.DeclaredErrors.{document_with_errors_kept, is_declared}
 use Rattle.document_convert.specs.LightParts.{is_light_document}
 use Rattle.document_convert.specs.Linked.{document_with_links}
+use Rattle.document_convert.specs.Links.{link_of}
 use Rattle.document_convert.specs.Lotted.{document_with_lots}
-use Rattle.document_convert.specs.Parted.{in_parts}
+use Rattle.document_convert.specs.Parted.{has_parts, in_parts}
+use Rattle.document_convert.specs.Respelled.{spells_otherwise_by}
 use Rattle.document_convert.specs.Texts.{Piece, pieces_of}
+use Rattle.document_convert.specs.UnitLots.{is_untied}
 use Rattle.document_convert.specs.declared.accounts.Account.{Account}
+use Rattle.document_convert.specs.declared.accounts.Counts.{Counts}
 use Rattle.document_convert.specs.declared.converting.Conversion.{Conversion}
 use Rattle.document_convert.specs.declared.converting.Converted.{Converted}
 use Rattle.document_convert.specs.declared.converting.Refused.{Refused}
@@ -40,28 +45,22 @@ abbrev pub refused_at : Piece → List Refused
 refused_at (Ok d) = []
 refused_at (Err refused) = refused ∷ []
 
--- a document with its units as links, or as it is
-abbrev pub linked_if : Bool → Data → Data
-linked_if true d = document_with_links d
-linked_if false d = d
+-- a document as this turns it, where that is asked for, or as it is
+abbrev pub if_asked : Bool → (Data → Data) → Data → Data
+if_asked true turn d = turn d
+if_asked false turn d = d
 
--- a document with its lots, or as it is
-abbrev pub lotted_if : Bool → Data → Data
-lotted_if true d = document_with_lots d
-lotted_if false d = d
+-- a document with its declared errors kept, and then with its units as links
+abbrev pub before_lots : Conversion → Data → Data
+before_lots ways d = if_asked ways.links document_with_links (if_asked ways.errors document_with_errors_kept d)
 
--- a document as it is before long lists are parted: the links first, and then the lots
+-- a document as it is before long lists are parted: with its lots last
 abbrev pub as_asked : Conversion → Data → Data
-as_asked ways d = lotted_if ways.lots (linked_if ways.links d)
-
--- a document in parts, or as it is
-abbrev pub parts_if : Bool → Data → List Data
-parts_if true d = in_parts d
-parts_if false d = d ∷ []
+as_asked ways d = if_asked ways.lots document_with_lots (before_lots ways d)
 
 -- in parts where they repeat little
 abbrev pub in_light_parts : Data → List Data
-in_light_parts d = parts_if (is_light_document d) d
+in_light_parts d = if is_light_document d then in_parts d else d ∷ []
 
 -- the documents of a text, as they are written
 abbrev pub documents_of : Conversion → List Piece → List Data
@@ -70,17 +69,20 @@ documents_of ways pieces = flat_map in_light_parts (map (as_asked ways) (flat_ma
 abbrev pub refusals_of : List Piece → List Refused
 refusals_of pieces = flat_map refused_at pieces
 
--- how many events of a document become parts
-abbrev pub parted_of : Data → ℕ
-parted_of d = parted_if (is_light_document d) d
+-- what is counted of a document: the units of its events as the errors are kept, and the lots that weren't tied of its events with their units as links
+abbrev pub counts_of : Conversion → Data → Counts
+counts_of ways d = record {
+  had = quantities d;
+  came = event_count d;
+  errors = count_if ways.errors is_declared d;
+  links = count_if ways.links (spells_otherwise_by link_of) (if_asked ways.errors document_with_errors_kept d);
+  untied = count_if ways.lots is_untied (before_lots ways d);
+  parted = count_if (is_light_document (as_asked ways d)) has_parts (as_asked ways d);
+}
 
--- with a document more, that is as asked: the lots that weren't tied are those of its events with their units as links
+-- with a document more
 abbrev pub account_with : Conversion → Account → Data → Account
-account_with ways a d =
-    with_lines
-    (with_document a (quantities d) (event_count d) (links_of ways.links d) (untied_of ways.lots (linked_if ways.links d)) (parted_of (as_asked ways d))
-    (as_asked ways d))
-    (in_light_parts (as_asked ways d))
+account_with ways a d = with_lines (with_document a (counts_of ways d) (as_asked ways d)) (in_light_parts (as_asked ways d))
 
 abbrev pub account_from : Conversion → Account → List Data → Account
 account_from ways a [] = a

@@ -12,8 +12,12 @@ pub mod SeenLots
 pub mod LotEvents
 pub mod Lotted
 pub mod LotLaws
+pub mod EachEvent
 pub mod Linked
+pub mod DeclaredErrors
+pub mod EachLaws
 pub mod LinkLaws
+pub mod ErrorLaws
 pub mod UnitLaws
 pub mod Texts
 pub mod Parted

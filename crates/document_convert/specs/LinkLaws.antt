@@ -1,5 +1,5 @@
 -- What becomes of units, in the words of the one who looks for one.
-use Rattle.std.specs.Prelude.{◌≡◌, ◌⊎◌, ◌==◌, ℕ, Bool, IsTrue, not, List, [], ◌++◌, codes, length, map, Some, Ok}
+use Rattle.std.specs.Prelude.{◌≡◌, ◌⊎◌, ◌==◌, ℕ, Bool, IsTrue, not, List, [], ◌++◌, codes, length, Some}
 use Rattle.std.specs.List.{list_all}
 use Rattle.percent_encoding.specs.Percent.{percent_decode}
 use Rattle.epc_core.specs.Items.{sgtin_key, sscc_key}
@@ -10,12 +10,8 @@ use Rattle.event_writing.specs.Texts.{item_text}
 use Rattle.item_spellings.specs.Elements.{Element}
 use Rattle.item_spellings.specs.Laws.{NamesSgtin, NamesSscc}
 use Rattle.item_spellings.specs.Writing.{IsWriting}
-use Rattle.event_json.specs.Checks.{type_text}
-use Rattle.event_json.specs.Documents.{event_list}
-use Rattle.event_json.specs.Untraced.{in_order}
-use Rattle.serde_json.specs.Data.{Data, Items, string}
-use Rattle.serde_json.specs.Find.{get}
-use Rattle.serde_json.specs.View.{items_of}
+use Rattle.serde_json.specs.Data.{string}
+use Rattle.document_convert.specs.EachLaws.{ChangesEach}
 use Rattle.document_convert.specs.Linked.{document_with_links}
 use Rattle.document_convert.specs.Links.{link_of}
 use Rattle.document_convert.specs.Lots.{zeros}
@@ -120,9 +116,5 @@ abbrev pub EventsAreLinked : Type 0
 EventsAreLinked = EventsAreSpelled link_of
 
 -- Each event of a document is there with its units as links, in order, and no other; nothing beside its body changes.
-pub record DocumentsAreLinked : Type 0 where
-  pub events : (d : Data) (events : Items) → event_list d ≡ Ok events → event_list (document_with_links d) ≡ Ok (items_of (map (with_spelled link_of) (in_order events)))
-  pub type : (d : Data) → type_text (document_with_links d) ≡ type_text d
-  pub others : (d : Data) (name : List ℕ) → type_text d ≡ Some (codes "EPCISDocument") → (name ≡ codes "type" → ⊥) → (name ≡ codes "epcisBody" → ⊥)
-      → get name (document_with_links d) ≡ get name d
-  pub alone : (d : Data) → (type_text d ≡ Some (codes "EPCISDocument") → ⊥) → document_with_links d ≡ with_spelled link_of d
+abbrev pub DocumentsAreLinked : Type 0
+DocumentsAreLinked = ChangesEach (with_spelled link_of) document_with_links

@@ -9,21 +9,21 @@ ghost use Rattle.document_convert.specs.Accounts.{
   elements_in,
   elements_of,
   elements_from,
+  count_if,
   event_count,
-  links_of,
   none_yet,
-  parted_if,
   quantities,
-  untied_of,
   with_document,
   with_line,
 };
+ghost use Rattle.document_convert.specs.DeclaredErrors.{is_declared};
 ghost use Rattle.document_convert.specs.Links.{link_of};
 ghost use Rattle.document_convert.specs.Parted.{has_parts};
 ghost use Rattle.document_convert.specs.Quantities.{has_quantities};
 ghost use Rattle.document_convert.specs.Respelled.{spells_otherwise_by};
 ghost use Rattle.document_convert.specs.UnitLots.{is_untied};
 
+use crate::declared_errors::is_declared;
 use crate::event_lists::events_of;
 use crate::parted::has_parts;
 use crate::quantities::has_quantities;
@@ -52,8 +52,27 @@ pub struct Account {
     /// The events that became parts, since they had a list of more than 1,000 members: none of a document that stayed
     /// as it is, since its parts would have repeated much.
     pub parted: u64,
+    /// The events that had been declared to be errors, and were kept without that.
+    pub errors: u64,
     /// The events that still have quantities, with which a capture refuses them.
     pub left: u64,
+}
+
+/// What is counted of a document on its way.
+#[derive(Clone, Copy, Debug)]
+pub(crate) struct Counts {
+    /// The elements of lists of quantities that it had.
+    pub(crate) had: u64,
+    /// The events that it came with.
+    pub(crate) came: u64,
+    /// Those that had been declared to be errors, and are kept.
+    pub(crate) errors: u64,
+    /// Those with units that become links.
+    pub(crate) links: u64,
+    /// Those with more lots of units than are tied to these.
+    pub(crate) untied: u64,
+    /// Those that become parts.
+    pub(crate) parted: u64,
 }
 
 impl Account {
@@ -69,6 +88,7 @@ impl Account {
             derived: 0,
             untied: 0,
             parted: 0,
+            errors: 0,
             left: 0,
         }
     }
@@ -83,12 +103,13 @@ impl Account {
             derived: self.derived.saturating_add(more.derived),
             untied: self.untied.saturating_add(more.untied),
             parted: self.parted.saturating_add(more.parted),
+            errors: self.errors.saturating_add(more.errors),
             left: self.left.saturating_add(more.left),
         }
     }
 
     /// The line that tells it, as
-    /// `note: written 1 events 3 links 0 lots 2 derived 1 untied 0 parted 0 left 0`, with its LF.
+    /// `note: written 1 events 3 links 0 lots 2 derived 1 untied 0 parted 0 errors 0 left 0`, with its LF.
     ///
     /// # Errors
     /// Where memory runs out.
@@ -101,12 +122,13 @@ impl Account {
             derived,
             untied,
             parted,
+            errors,
             left,
         } = self;
         let mut text = format!(in alloc; "note: written {written} events {events}")?;
         text.push_str(format!(in alloc; " links {links} lots {lots} derived {derived}")?.as_str())?;
         text.push_str(format!(in alloc;
-            " untied {untied} parted {parted} left {left}\n"
+            " untied {untied} parted {parted} errors {errors} left {left}\n"
         )?.as_str())?;
         Ok(text)
     }
@@ -117,36 +139,28 @@ impl Account {
     /// Where memory runs out.
     pub fn json(self, alloc: Global) -> Result<String, AllocError> {
         let account =
-            json!(in alloc; {"derived": self.derived, "events": self.events, "left": self.left, "links": self.links, "lots": self.lots, "parted": self.parted, "untied": self.untied, "written": self.written})?;
+            json!(in alloc; {"derived": self.derived, "errors": self.errors, "events": self.events, "left": self.left, "links": self.links, "lots": self.lots, "parted": self.parted, "untied": self.untied, "written": self.written})?;
         let mut line = json!(in alloc; {"account": account})?.to_string(alloc)?;
         line.push('\n')?;
         Ok(line)
     }
 
-    /// With a document more, that had so many quantities, events, events with units that are links now, events with too
-    /// many lots, and events that become parts, as it is before they do.
-    pub(crate) fn with(
-        self,
-        had: u64,
-        came: u64,
-        linked: u64,
-        untied: u64,
-        parted: u64,
-        document: &Value,
-    ) -> Account
-        ensures { result ≡ with_document self had came linked untied parted (view document.now) }
+    /// With a document more, of which this was counted, as it is before its long lists are parted.
+    pub(crate) fn with(self, counts: Counts, document: &Value) -> Account
+        ensures { result ≡ with_document self counts (view document.now) }
     {
         let events = events_of(document);
-        let added = event_count(document).saturating_sub(came);
-        let moved = had.saturating_sub(quantities(document));
+        let added = event_count(document).saturating_sub(counts.came);
+        let moved = counts.had.saturating_sub(quantities(document));
         Account {
             written: self.written,
             events: self.events,
-            links: self.links.saturating_add(linked),
+            links: self.links.saturating_add(counts.links),
             lots: self.lots.saturating_add(moved),
             derived: self.derived.saturating_add(added),
-            untied: self.untied.saturating_add(untied),
-            parted: self.parted.saturating_add(parted),
+            untied: self.untied.saturating_add(counts.untied),
+            parted: self.parted.saturating_add(counts.parted),
+            errors: self.errors.saturating_add(counts.errors),
             left: self.left.saturating_add(left(events)),
         }
     }
@@ -163,6 +177,7 @@ impl Account {
             derived: self.derived,
             untied: self.untied,
             parted: self.parted,
+            errors: self.errors,
             left: self.left,
         }
     }
@@ -175,9 +190,29 @@ pub(crate) fn event_count(document: &Value) -> u64
     count(events_of(document))
 }
 
+/// How many events of a document were declared to be errors, where they are kept.
+pub(crate) fn errors_of(document: &Value, errors: bool) -> u64
+    ensures { result ≡ count_if errors is_declared (view document.now) }
+{
+    if errors {
+        declared(events_of(document))
+    } else {
+        0
+    }
+}
+
+/// How many of these events were.
+#[tactic(auto, using(event_json::proofs::Counted::counted))]
+fn declared(events: &[Value]) -> u64
+    ensures { result ≡ count_by is_declared (in_order (items_view events.now)) }
+{
+    events.iter().filter(|event| is_declared(event)).count() as u64
+}
+
 /// How many events of a document spell a unit otherwise than by its link, where that is asked for.
 pub(crate) fn links_of(alloc: Global, document: &Value, links: bool) -> Result<u64, AllocError>
-    ensures { IfOk result (λ count. count ≡ links_of links (view document.now)) }
+    ensures { IfOk result
+        (λ count. count ≡ count_if links (spells_otherwise_by link_of) (view document.now)) }
 {
     if links {
         linked(alloc, events_of(document))
@@ -202,7 +237,7 @@ fn linked(alloc: Global, events: &[Value]) -> Result<u64, AllocError>
 
 /// How many events of a document have more lots of units than are tied to these, where that is asked for.
 pub(crate) fn untied_of(alloc: Global, document: &Value, lots: bool) -> Result<u64, AllocError>
-    ensures { IfOk result (λ count. count ≡ untied_of lots (view document.now)) }
+    ensures { IfOk result (λ count. count ≡ count_if lots is_untied (view document.now)) }
 {
     if lots {
         untied(alloc, events_of(document))
@@ -234,8 +269,8 @@ fn count(events: &[Value]) -> u64
 }
 
 /// How many events of a document become parts, where it is parted.
-pub(crate) fn parted_if(document: &Value, parts: bool) -> u64
-    ensures { result ≡ parted_if parts (view document.now) }
+pub(crate) fn parted_of(document: &Value, parts: bool) -> u64
+    ensures { result ≡ count_if parts has_parts (view document.now) }
 {
     if parts {
         parted(events_of(document))

@@ -26,10 +26,13 @@ ghost use Rattle.document_convert.specs.Converted.{
   AreLinesOf,
   IsConverted,
   IsLineOf,
-  linked_if,
-  lotted_if,
-  parts_if,
+  if_asked,
+  in_light_parts,
 };
+ghost use Rattle.document_convert.specs.DeclaredErrors.{document_with_errors_kept};
+ghost use Rattle.document_convert.specs.LightParts.{is_light_document};
+ghost use Rattle.document_convert.specs.Linked.{document_with_links};
+ghost use Rattle.document_convert.specs.Lotted.{document_with_lots};
 ghost use Rattle.document_convert.specs.Texts.{
   Piece,
   begins,
@@ -43,7 +46,10 @@ ghost use Rattle.document_convert.specs.Texts.{
   pieces_at,
 };
 
-use crate::accounts::{Account, event_count, links_of, parted_if, quantities, untied_of};
+use crate::accounts::{
+    Account, Counts, errors_of, event_count, links_of, parted_of, quantities, untied_of,
+};
+use crate::declared_errors::document_with_errors_kept;
 use crate::document_parts::{alone, in_parts};
 use crate::documents::documents_in;
 use crate::light_parts::is_light_document;
@@ -61,6 +67,9 @@ pub struct Conversion {
     pub lots: bool,
     /// Units are links, as [`document_with_links`](crate::document_with_links) has it.
     pub links: bool,
+    /// Events that were declared to be errors are kept as if they weren't, as
+    /// [`document_with_errors_kept`](crate::document_with_errors_kept) has it.
+    pub errors: bool,
 }
 
 /// What stands in a text in the place of a document, and is none.
@@ -83,7 +92,8 @@ pub struct Converted {
 }
 
 /// Turns a text as it is found into documents that are captured, one a line: each as
-/// [`document_in`](crate::document_in) finds it, and where it is asked for with its units as links, as
+/// [`document_in`](crate::document_in) finds it, and where it is asked for with the events that were declared to be
+/// errors, as [`document_with_errors_kept`](crate::document_with_errors_kept) has it, then with its units as links, as
 /// [`document_with_links`](crate::document_with_links) has it, and then with its lots, as
 /// [`document_with_lots`](crate::document_with_lots) has it; and then in the documents of which a capture takes the
 /// lists, as [`in_parts`](crate::in_parts) has it.
@@ -110,9 +120,10 @@ pub fn convert(alloc: Global, text: &[u8], ways: Conversion) -> Result<Converted
     // one value, or has one in each line that isn't blank, where the first of them is one. A line is JSON without a
     // space, and is read back as its document's value. What is no document is told, in order, by its line and its place
     // in its array.
+    // Where that is asked for, an event that was declared to be an error is there without its declaration.
     // It is counted how many documents and events were written, of how many events units became links, how many
     // quantities became lots, how many events were derived, how many have too many lots for that, how many became
-    // parts, and how many still have quantities.
+    // parts, of how many the declaration went, and how many still have quantities.
     // Not covered: a document that nests more than 127 deep isn't read back; a capture refuses one with long lists that
     // stays as it is; how the account is printed, and added up over several texts.
     ensures { IfOk result (IsConverted ways text.now) }
@@ -181,9 +192,21 @@ fn no_document(line: u64, number: u64) -> Refused
     Refused { line, fault }
 }
 
+/// A document with the events that were declared to be errors, or as it is.
+fn kept_if(alloc: Global, document: Value, errors: bool) -> Result<Value, AllocError>
+    ensures { IfOk result
+        (λ d. view d ≡ if_asked errors document_with_errors_kept (view document)) }
+{
+    if errors {
+        document_with_errors_kept(alloc, document)
+    } else {
+        Ok(document)
+    }
+}
+
 /// A document with its units as links, or as it is.
 fn linked_if(alloc: Global, document: Value, links: bool) -> Result<Value, AllocError>
-    ensures { IfOk result (λ d. view d ≡ linked_if links (view document)) }
+    ensures { IfOk result (λ d. view d ≡ if_asked links document_with_links (view document)) }
 {
     if links {
         document_with_links(alloc, document)
@@ -194,7 +217,7 @@ fn linked_if(alloc: Global, document: Value, links: bool) -> Result<Value, Alloc
 
 /// A document with its lots, or as it is.
 fn lotted_if(alloc: Global, document: Value, lots: bool) -> Result<Value, AllocError>
-    ensures { IfOk result (λ d. view d ≡ lotted_if lots (view document)) }
+    ensures { IfOk result (λ d. view d ≡ if_asked lots document_with_lots (view document)) }
 {
     if lots {
         document_with_lots(alloc, document)
@@ -203,11 +226,12 @@ fn lotted_if(alloc: Global, document: Value, lots: bool) -> Result<Value, AllocE
     }
 }
 
-/// A document in parts, or as it is.
-fn parts_if(alloc: Global, document: Value, parts: bool) -> Result<Vec<Value>, AllocError>
-    ensures { IfOk result (λ found. map view found.items ≡ parts_if parts (view document)) }
+/// A document in parts where they repeat little, or as it is.
+fn parts_if(alloc: Global, document: Value, light: bool) -> Result<Vec<Value>, AllocError>
+    requires { light ≡ is_light_document (view document) }
+    ensures { IfOk result (λ found. map view found.items ≡ in_light_parts (view document)) }
 {
-    if parts {
+    if light {
         in_parts(alloc, document)
     } else {
         alone(alloc, document)
@@ -323,15 +347,23 @@ impl Converted {
         ensures { OnOk result ((pieces : List Piece) → AreConverted ways pieces self.old
             → AreConverted ways (pieces ++ Ok (view document) ∷ []) self.new) }
     {
-        let had = quantities(&document);
-        let came = event_count(&document);
-        let links = links_of(alloc, &document, ways.links)?;
-        let linked = linked_if(alloc, document, ways.links)?;
+        let (had, came) = (quantities(&document), event_count(&document));
+        let errors = errors_of(&document, ways.errors);
+        let kept = kept_if(alloc, document, ways.errors)?;
+        let links = links_of(alloc, &kept, ways.links)?;
+        let linked = linked_if(alloc, kept, ways.links)?;
         let untied = untied_of(alloc, &linked, ways.lots)?;
         let asked = lotted_if(alloc, linked, ways.lots)?;
         let light = is_light_document(alloc, &asked)?;
-        let parted = parted_if(&asked, light);
-        self.account = self.account.with(had, came, links, untied, parted, &asked);
+        let counts = Counts {
+            had,
+            came,
+            errors,
+            links,
+            untied,
+            parted: parted_of(&asked, light),
+        };
+        self.account = self.account.with(counts, &asked);
         let documents = parts_if(alloc, asked, light)?;
         self.push_lines(alloc, documents)?;
         Ok(())

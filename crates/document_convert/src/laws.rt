@@ -1,5 +1,6 @@
 //! Laws of a value's document, each named by a function with an empty body whose contract is the law.
 
+ghost use Rattle.document_convert.specs.ErrorLaws.{DeclarationsGo, DocumentsAreKept, OthersStay, ReadAsSaid};
 ghost use Rattle.document_convert.specs.LinkLaws.{DocumentsAreLinked, EventsAreLinked, LinksAreUnits, TextsAreLinked, UnitsBecomeLinks, UnitsStayApart};
 ghost use Rattle.document_convert.specs.LotLaws.{EventsAreRespelled, LotsAreMoved, LotsAreNamed, LotsStayApart, NothingGetsLost, ReadStaysWithLots, SpelledAreLots, SpellingsBecomeOne, TextsAreRespelled, WithoutStays};
 ghost use Rattle.document_convert.specs.UnitLaws.{LotsAreMade, LotsAreNumbered, NothingIsInvented, UnitsAreLed, WithoutLotsAsBefore};
@@ -128,4 +129,14 @@ pub fn units_are_linked()
     ensures texts { TextsAreLinked }
     ensures events { EventsAreLinked }
     ensures documents { DocumentsAreLinked }
+{}
+
+/// An event that was declared to be an error has all its members but the declaration, so that a capture reads it as the
+/// event that says the same and wasn't declared; any other stays as it is. Each event of a document is there, in order,
+/// and no other.
+pub fn errors_are_kept()
+    ensures others { OthersStay }
+    ensures events { DeclarationsGo }
+    ensures read { ReadAsSaid }
+    ensures documents { DocumentsAreKept }
 {}

@@ -4,6 +4,7 @@
 
 mod accounts;
 mod converting;
+mod declared_errors;
 mod document_parts;
 mod documents;
 mod event_lists;
@@ -27,6 +28,7 @@ mod weights;
 
 pub use accounts::Account;
 pub use converting::{Conversion, Converted, Refused, convert};
+pub use declared_errors::document_with_errors_kept;
 pub use document_parts::in_parts;
 pub use documents::{document_in, documents_in};
 pub use linked::document_with_links;

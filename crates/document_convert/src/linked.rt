@@ -51,7 +51,7 @@ fn events_with_links(alloc: Global, list: &[Value]) -> Result<Vec<Value>, AllocE
 ///
 /// # Errors
 /// Where memory runs out.
-#[tactic(auto, unfolding(crate::specs::Linked::document_with_links))]
+#[tactic(auto, unfolding(crate::specs::EachEvent::with_each))]
 pub fn document_with_links(alloc: Global, document: Value) -> Result<Value, AllocError>
     // Each event is there, in order, and no other is. In the lists of items of an event, and its parent, a text that
     // names a unit becomes the unit's one link, in its place, and nothing else changes; nor does what stands in the

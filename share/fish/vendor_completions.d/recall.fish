@@ -85,6 +85,7 @@ complete -c recall -n __fish_use_subcommand -f -a convert -d 'Turns documents as
 complete -c recall -n '__fish_seen_subcommand_from convert' -l json -d 'Print JSON, an object a line'
 complete -c recall -n '__fish_seen_subcommand_from convert' -l lots -d 'Put the lots of quantity lists among the items'
 complete -c recall -n '__fish_seen_subcommand_from convert' -l links -d 'Write units of links on any host, and of element strings, on id.gs1.org'
+complete -c recall -n '__fish_seen_subcommand_from convert' -l keep-errors -d 'Keep events that were declared to be errors, without their errorDeclaration'
 complete -c recall -n '__fish_seen_subcommand_from convert' -l max-bytes -x -d 'Refuse a document, or a line, that is longer, 1 to 1073741824 [default: 67108864]'
 complete -c recall -n '__fish_seen_subcommand_from convert' -l help -d 'Print help'
 complete -c recall -n __fish_use_subcommand -f -a coverage -d 'Tells what each site captured, and from when to when'

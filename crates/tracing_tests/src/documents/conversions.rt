@@ -1,6 +1,9 @@
 //! Documents as they are found, and those that are captured of them, by rows.
 
-use document_convert::{Conversion, convert, document_with_lots, documents_in, link_of, lot_of};
+use document_convert::{
+    Conversion, convert, document_with_errors_kept, document_with_lots, documents_in, link_of,
+    lot_of,
+};
 use serde_json::Value;
 use std::alloc::Global;
 use std::test::*;
@@ -284,9 +287,48 @@ fn units(rt: HostRuntime) -> Result<(), Fail> {
     Ok(())
 }
 
+/// Whether each document becomes the one beside it, with the events that were declared to be errors.
+fn are_kept(alloc: Global, rows: &[(&str, &str)]) -> Result<bool, Fail> {
+    for (text, want) in rows {
+        let kept = document_with_errors_kept(alloc, Value::from_str(alloc, text)?)?;
+        if kept.to_string(alloc)?.as_str() != *want {
+            return Ok(false);
+        }
+    }
+    Ok(true)
+}
+
+#[test]
+fn errors(rt: HostRuntime) -> Result<(), Fail> {
+    let rows = [
+        (
+            r#"{"errorDeclaration":{"reason":"did_not_occur"},"type":"ObjectEvent","x":1}"#,
+            r#"{"type":"ObjectEvent","x":1}"#,
+        ),
+        (
+            r#"{"errorDeclaration":null,"type":"ObjectEvent"}"#,
+            r#"{"errorDeclaration":null,"type":"ObjectEvent"}"#,
+        ),
+        (
+            r#"{"epcisBody":{"a":1,"eventList":[{"x":{"errorDeclaration":2}}]},"errorDeclaration":3,"type":"EPCISDocument"}"#,
+            r#"{"epcisBody":{"a":1,"eventList":[{"x":{"errorDeclaration":2}}]},"errorDeclaration":3,"type":"EPCISDocument"}"#,
+        ),
+        (
+            r#"{"epcisBody":{"a":1,"eventList":[{"x":4},{"errorDeclaration":5,"x":6},{"errorDeclaration":null},7]},"errorDeclaration":8,"type":"EPCISDocument"}"#,
+            r#"{"epcisBody":{"eventList":[{"x":4},{"x":6},{"errorDeclaration":null},7]},"errorDeclaration":8,"type":"EPCISDocument"}"#,
+        ),
+    ];
+    assert!(rt; are_kept(rt.alloc(), &rows)?);
+    Ok(())
+}
+
 /// The lines that a text is turned into, and then what is none of it: its line, its number and its fault.
 fn written(alloc: Global, text: &str, lots: bool) -> Result<String, Fail> {
-    let ways = Conversion { lots, links: false };
+    let ways = Conversion {
+        lots,
+        links: false,
+        errors: false,
+    };
     let converted = convert(alloc, text.as_bytes(), ways)?;
     let mut out = String::new(alloc);
     out.push_str(converted.lines.as_str())?;
@@ -304,23 +346,23 @@ fn texts(rt: HostRuntime) -> Result<(), Fail> {
     let rows = [
         (
             "\u{feff} {\"type\":\"ObjectEvent\"}\n",
-            "{\"type\":\"ObjectEvent\"}\nnote: written 1 events 1 links 0 lots 0 derived 0 untied 0 parted 0 left 0\n",
+            "{\"type\":\"ObjectEvent\"}\nnote: written 1 events 1 links 0 lots 0 derived 0 untied 0 parted 0 errors 0 left 0\n",
         ),
         (
             "\n{\"isA\":\"ObjectEvent\"}\r\n \n{\n[7,{\"type\":\"TransactionEvent\"}]",
-            "{\"isA\":\"ObjectEvent\",\"type\":\"ObjectEvent\"}\n{\"type\":\"TransactionEvent\"}\n4 0 Syntax\n5 1 NotDocument\nnote: written 2 events 2 links 0 lots 0 derived 0 untied 0 parted 0 left 0\n",
+            "{\"isA\":\"ObjectEvent\",\"type\":\"ObjectEvent\"}\n{\"type\":\"TransactionEvent\"}\n4 0 Syntax\n5 1 NotDocument\nnote: written 2 events 2 links 0 lots 0 derived 0 untied 0 parted 0 errors 0 left 0\n",
         ),
         (
             "",
-            "0 0 Syntax\nnote: written 0 events 0 links 0 lots 0 derived 0 untied 0 parted 0 left 0\n",
+            "0 0 Syntax\nnote: written 0 events 0 links 0 lots 0 derived 0 untied 0 parted 0 errors 0 left 0\n",
         ),
         (
             "x\n{\"type\":\"ObjectEvent\"}",
-            "0 0 Syntax\nnote: written 0 events 0 links 0 lots 0 derived 0 untied 0 parted 0 left 0\n",
+            "0 0 Syntax\nnote: written 0 events 0 links 0 lots 0 derived 0 untied 0 parted 0 errors 0 left 0\n",
         ),
         (
             "{}",
-            "0 0 NotDocument\nnote: written 0 events 0 links 0 lots 0 derived 0 untied 0 parted 0 left 0\n",
+            "0 0 NotDocument\nnote: written 0 events 0 links 0 lots 0 derived 0 untied 0 parted 0 errors 0 left 0\n",
         ),
     ];
     for (text, want) in &rows {
@@ -337,7 +379,7 @@ fn texts_with_lots(rt: HostRuntime) -> Result<(), Fail> {
         "{\"type\":\"ObjectEvent\",\"quantityList\":[{\"epcClass\":\"urn:epc:idpat:sgtin:9521321.000017.*\"}]}";
     let given = format!(in rt.alloc(); "{text}\n{bare}")?;
     let want =
-        "{\"epcList\":[\"https://id.gs1.org/01/09521321000179/10/Y-1\"],\"type\":\"ObjectEvent\"}\n{\"quantityList\":[{\"epcClass\":\"urn:epc:idpat:sgtin:9521321.000017.*\"}],\"type\":\"ObjectEvent\"}\nnote: written 2 events 2 links 0 lots 1 derived 0 untied 0 parted 0 left 1\n";
+        "{\"epcList\":[\"https://id.gs1.org/01/09521321000179/10/Y-1\"],\"type\":\"ObjectEvent\"}\n{\"quantityList\":[{\"epcClass\":\"urn:epc:idpat:sgtin:9521321.000017.*\"}],\"type\":\"ObjectEvent\"}\nnote: written 2 events 2 links 0 lots 1 derived 0 untied 0 parted 0 errors 0 left 1\n";
     assert!(rt; written(rt.alloc(), given.as_str(), true)?.as_str() == want);
     Ok(())
 }

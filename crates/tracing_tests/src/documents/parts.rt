@@ -203,6 +203,7 @@ fn counted(alloc: Global, text: &str) -> Result<String, Fail> {
     let ways = Conversion {
         lots: false,
         links: false,
+        errors: false,
     };
     let account = convert(alloc, text.as_bytes(), ways)?.account;
     let (written, events, parted) = (account.written, account.events, account.parted);

@@ -12,6 +12,7 @@ returns c =
       files = paths ∙ ap (λ xs. Some (map (λ p. p.now) xs)) (sym copy);
       lots = c.is_set-lots.ensures;
       links = c.is_set-links.ensures;
+      errors = c.is_set-errors.ensures;
       most = c.in_ok-most.ensures;
       form = c.requires;
     }

@@ -12,5 +12,6 @@ returns c =
       derived = c.args.self.derived;
       untied = c.args.self.untied;
       parted = c.args.self.parted;
+      errors = c.args.self.errors;
       left = c.args.self.left;
     }
