@@ -12,7 +12,7 @@ use Rattle.event_json.specs.Untraced.{in_order, is_text}
 use Rattle.document_convert.specs.Types.{with_member}
 use Rattle.document_convert.specs.Lots.{SpellsLot, lot_of}
 use Rattle.item_spellings.specs.Lots.{lot_text}
-use Rattle.document_convert.specs.Respelled.{Spelling, differs, is_otherwise, item_otherwise, otherwise_as, respelled_item, spelled, spelled_at, spelled_item, spelled_member, spelled_text, spells_otherwise_by, value_otherwise, with_spelled}
+use Rattle.document_convert.specs.Respelled.{Spelling, is_otherwise, item_otherwise, otherwise_as, respelled_item, spelled, spelled_at, spelled_item, spelled_member, spelled_text, spells_otherwise_by, value_otherwise, with_spelled}
 use Rattle.document_convert.specs.LotLaws.{AreSpelled, EventsAreRespelled, EventsAreSpelled, IsSpelled, TextsAreRespelled}
 use Rattle.document_convert.proofs.Beside.{same_type}
 use Rattle.document_convert.proofs.Lists.{items_back}
@@ -42,7 +42,7 @@ module _ (f : Spelling) where
   pub same_text : (text : List ℕ) → is_otherwise f text ≡ false → spelled_text f text ≡ text
   same_text text is = by (f text) is
     where
-      by : (o : Option (List ℕ)) → differs text o ≡ false → unwrap_or o text ≡ text
+      by : (o : Option (List ℕ)) → is_text (λ spelled. not (bytes_eq spelled text)) o ≡ false → unwrap_or o text ≡ text
       by None is = refl
       by (Some spelled) is = (bytes_eq-Decides spelled text).0 (not_not (bytes_eq spelled text) is)
         where

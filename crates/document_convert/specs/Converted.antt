@@ -50,13 +50,9 @@ abbrev pub if_asked : Bool → (Data → Data) → Data → Data
 if_asked true turn d = turn d
 if_asked false turn d = d
 
--- a document with its declared errors kept, and then with its units as links
-abbrev pub before_lots : Conversion → Data → Data
-before_lots ways d = if_asked ways.links document_with_links (if_asked ways.errors document_with_errors_kept d)
-
--- a document as it is before long lists are parted: with its lots last
+-- a document as it is before long lists are parted: its declared errors are kept first, then its units become links, and then its lots are moved
 abbrev pub as_asked : Conversion → Data → Data
-as_asked ways d = if_asked ways.lots document_with_lots (before_lots ways d)
+as_asked ways d = if_asked ways.lots document_with_lots (if_asked ways.links document_with_links (if_asked ways.errors document_with_errors_kept d))
 
 -- in parts where they repeat little
 abbrev pub in_light_parts : Data → List Data
@@ -76,7 +72,7 @@ counts_of ways d = record {
   came = event_count d;
   errors = count_if ways.errors is_declared d;
   links = count_if ways.links (spells_otherwise_by link_of) (if_asked ways.errors document_with_errors_kept d);
-  untied = count_if ways.lots is_untied (before_lots ways d);
+  untied = count_if ways.lots is_untied (if_asked ways.links document_with_links (if_asked ways.errors document_with_errors_kept d));
   parted = count_if (is_light_document (as_asked ways d)) has_parts (as_asked ways d);
 }
 

@@ -7,13 +7,14 @@ use Rattle.event_json.specs.Documents.{listed}
 use Rattle.event_json.specs.Untraced.{in_order, is_text}
 use Rattle.document_convert.specs.Documents.{document_around}
 use Rattle.document_convert.specs.LotEvents.{has_unit_lots, lot_events, spellings, with_made}
+use Rattle.document_convert.specs.Lots.{lot_of}
 use Rattle.document_convert.specs.Quantities.{has_quantities, with_its_lots}
-use Rattle.document_convert.specs.Respelled.{spells_otherwise, with_spelled_lots}
+use Rattle.document_convert.specs.Respelled.{spells_otherwise_by, with_spelled}
 use Rattle.document_convert.specs.UnitLots.{unit_lots}
 
 -- an event with the lots of its quantities among its items, and all lots there by their one spelling
 abbrev pub lotted : Data → Data
-lotted d = with_spelled_lots (with_its_lots d)
+lotted d = with_spelled lot_of (with_its_lots d)
 
 -- the same with the lots of its units among what it makes, where it is a transformation
 unfoldable pub converted_event : Data → Data
@@ -25,7 +26,7 @@ events_with_lots d = converted_event d ∷ lot_events d
 
 -- it has quantities, spells a lot otherwise, or tells the lot of units
 abbrev pub has_lots : Data → Bool
-has_lots d = has_quantities d || spells_otherwise d || has_unit_lots d
+has_lots d = has_quantities d || spells_otherwise_by lot_of d || has_unit_lots d
 
 -- an event that is a document of its own: one that tells the lot of units becomes a document of several events
 abbrev pub bare_with_lots : Data → Data

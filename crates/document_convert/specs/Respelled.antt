@@ -1,6 +1,6 @@
 -- Texts that an event names as items (GS1 EPCIS 2.0, section 7.4), each by its one spelling: a function says which a text has, as
 -- `lot_of` of Lots.antt does of a text that spells a lot.
-use Rattle.std.specs.Prelude.{ℕ, Bool, false, not, if◌then◌else◌, ◌||◌, List, codes, bytes_eq, map, Option, Some, None, unwrap_or}
+use Rattle.std.specs.Prelude.{ℕ, Bool, false, not, if◌then◌else◌, ◌||◌, List, codes, bytes_eq, map, Option, Some, None, option_map, unwrap_or}
 use Rattle.std.specs.List.{list_any}
 use Rattle.serde_json.specs.Data.{Data, string, array, Items}
 use Rattle.serde_json.specs.Find.{as_array, as_str}
@@ -54,12 +54,8 @@ spelled_as f d type =
 
 -- ---- whether something is spelled otherwise
 
-abbrev pub differs : List ℕ → Option (List ℕ) → Bool
-differs text None = false
-differs text (Some spelled) = not (bytes_eq spelled text)
-
 abbrev pub is_otherwise : Spelling → List ℕ → Bool
-is_otherwise f text = differs text (f text)
+is_otherwise f text = is_text (λ spelled. not (bytes_eq spelled text)) (f text)
 
 abbrev pub item_otherwise : Spelling → Data → Bool
 item_otherwise f d = is_text (is_otherwise f) (as_str d)
@@ -88,13 +84,9 @@ spells_otherwise_by f d = is_text (otherwise_as f d) (type_text d)
 
 -- ---- an event
 
-abbrev pub spelled_told : Spelling → Option (List ℕ) → Data → Data
-spelled_told f None d = d
-spelled_told f (Some type) d = spelled_as f d type
-
 -- an event with its texts by their one spelling; one that spells none otherwise stays as it is
 unfoldable pub with_spelled : Spelling → Data → Data
-with_spelled f d = if spells_otherwise_by f d then spelled_told f (type_text d) d else d
+with_spelled f d = if spells_otherwise_by f d then unwrap_or (option_map (spelled_as f d) (type_text d)) d else d
 
 -- ---- its lots
 
