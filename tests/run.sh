@@ -86,6 +86,11 @@ on='a further `recall run` goes on with the recalls that are open'
 wants 0 's0#1 open' "$on" run few --turns 1
 ended few
 
+echo "runs of few turns, one after another"
+cp -r started rounds
+wants 0 's0#1 ended' '' run rounds --turns 200 --until-ended
+wants 0 "equal s0#1 pairs $sites" '' audit rounds
+
 # A file may have 1,024 bytes: what a step writes to its log is more, so nothing can be kept.
 echo "a run whose files may not grow"
 rm -rf full && cp -r started full
@@ -99,6 +104,13 @@ rm -rf full && cp -r started full
 sed -E 's/ stopped ([0-9]+ times|once): / stopped: /' err >told
 printf 'site %s stopped: Device\nfile full/%s.db: disk I/O error\n' s1 s1 s2 s2 | cat - <(echo "$on") | cmp -s - told ||
     complain "a run whose files may not grow: $(cat err)"
+# nothing moves in the first of such runs, so it is the last one
+(
+    trap '' XFSZ
+    ulimit -f 1
+    exec "$recall" run full --turns 40 --until-ended >out 2>err </dev/null
+)
+[ "$?:$(cat out)" = '0:s0#1 open' ] || complain "runs whose files may not grow: $(cat out err)"
 wants 0 'open s0#1' '' audit full
 ended full
 

@@ -228,6 +228,7 @@ def commands(chains):
         Command("run-two", "run", chains.two, ["run", "@", "--turns", "300"], []),
         Command("run-json", "run", chains.two, ["run", "--wait", "1", "--json", "@", "--exit-code"], []),
         Command("run-unless", "run", chains.started, ["run", "@", "--turns", "300", "--unless-gaps"], []),
+        Command("run-until", "run", chains.started, ["run", "@", "--turns", "2", "--until-ended"], []),
         Command("report", "question", chains.ended, ["report", "@", "plant#1"], []),
         Command("report-brief", "question", chains.ended, ["report", "@", "plant#1", "--brief", "--events"], []),
         Command("report-json", "question", chains.ended, ["report", "--wait", "1", "@", "plant#1", "--json", "--events"], []),

@@ -19,8 +19,6 @@ use Rattle.site_core.specs.declared.outcomes.Effects.{Effects}
 use Rattle.site_core.specs.declared.outcomes.Refusal.{Refusal}
 use Rattle.world_core.specs.Keepers.{StandsAs}
 use Rattle.world_core.specs.Worlds.{Standing, Up, Down, record_of}
-use Rattle.site_threads.specs.Gathering.{RanAsAWorld}
-use Rattle.site_threads.specs.declared.lists.RunLog.{RunLog}
 use Rattle.site_folders.specs.Faults.{IsHarmless, OnlyAsks}
 use Rattle.site_folders.specs.FileCalls.{FileCall, ClosedSite, OpenedSite, ReadFile}
 use Rattle.site_folders.specs.Keepers.{KeepFrom, closes_all, opens_from, opens_site}
@@ -34,7 +32,7 @@ use Rattle.folder_commands.specs.Batches.{BatchFails, TakesAll, TakesWhere, Brea
 use Rattle.folder_commands.specs.declared.runs.RunTerms.{RunTerms}
 use Rattle.folder_commands.specs.Runs.{BreaksRun, RunFails, RunsAll, RunsAt}
 use Rattle.folder_commands.specs.Steps.{AtSite, BreaksCapture, BreaksStart, CaptureFails, CapturesAt, CapturesFile, StartFails, StartsAt, StartsItem, StartsRecall, Steps, TellsStep}
-use Rattle.folder_commands.proofs.RunLemmas.{broke_or_not, unless_or_not}
+use Rattle.folder_commands.proofs.RunLemmas.{RanOrNot, broke_or_not, unless_or_not}
 use Rattle.folder_commands.specs.declared.batches.BatchCame.{BatchCame}
 use Rattle.folder_commands.specs.declared.batches.BatchOutput.{BatchOutput}
 use Rattle.folder_commands.specs.declared.words.WordKind.{WordKind}
@@ -199,11 +197,11 @@ module _ {K : Type 0} (shown : K → Option Record) (may : K → Record → Type
   -- ---- runs
 
   ran_all : (text : List ℕ) (keepers after : List K) (rs : List Record) → calls ≡ ReadFile (list_path folder) text ∷ opens_from folder sites 0 keepers ++ closes_all after → KeepFrom shown stored sites 0 keepers rs → length keepers ≡ length sites
-      → (after ≡ keepers) ⊎ ((lists : List RunLog) × RanAsAWorld shown may keepers after lists) → ActTogether old new
+      → RanOrNot shown may keepers after → ActTogether old new
   ran_all text keepers after rs is keep number (inl same) =
       asked (subst (λ (cs : List (FileCall K)). OnlyAsks cs) (sym (is ∙ ap (λ (ks : List K). ReadFile (list_path folder) text ∷ opens_from folder sites 0 keepers ++ closes_all ks) same))
       (one_read shown stored folder text (opens_from folder sites 0 keepers ++ closes_all keepers) (closes_ask folder sites 0 keepers)))
-  ran_all text keepers after rs is keep number (inr (lists, ran)) = all_ran shown may opens stored folder sites old new many calls continued left text keepers after rs lists is keep number ran
+  ran_all text keepers after rs is keep number (inr (between, ran)) = all_ran shown may opens stored folder sites old new many calls continued left text keepers after rs between is keep number ran
 
   pub has_run : (knows : List ℕ → List ℕ → Type 0) (failed : K → ℕ) (terms : RunTerms) (output : Output) → RunsAt knows shown failed may stored folder terms output calls → ActTogether old new
   has_run knows failed terms output after =

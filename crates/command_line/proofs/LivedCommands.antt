@@ -20,7 +20,8 @@ use Rattle.site_threads.specs.Gathering.{AllStandThere, RanAsAWorld, StandsThere
 use Rattle.site_threads.specs.declared.lists.RunLog.{RunLog}
 use Rattle.site_folders.specs.Faults.{EndsInVain, OnlyAsks}
 use Rattle.site_folders.specs.FileCalls.{FileCall, Blamed, ClosedSite, Failed, LookedFor, MadeSite, OpenedSite, ReadFile, ReadLine, WroteFile}
-use Rattle.site_folders.specs.Keepers.{KeepFrom, KeepsSite, closes_all, opens_from, opens_site}
+use Rattle.site_folders.specs.Keepers.{AreShown, KeepFrom, KeepsSite, closes_all, opens_from, opens_site}
+use Rattle.site_folders.proofs.CallsInTurn.{are_shown, shown_once}
 use Rattle.site_folders.specs.Lists.{AfterList}
 use Rattle.site_folders.specs.Paths.{file_path, list_path}
 use Rattle.recall_text.specs.Words.{name_at}
@@ -32,7 +33,8 @@ use Rattle.folder_commands.specs.declared.words.WordKind.TheVariants as kinds
 use Rattle.command_line.specs.Lives.{ActTogether, AllStandWhereLed, FilesAreContinued, FilesAreLeft, IsOwn}
 use Rattle.command_line.proofs.Lived.{CameTo, failed_to, stepped_to}
 use Rattle.command_line.proofs.LivedRows.{StepsAlone, Unchanged, asks_unchanged, closed_same, opened_first, steps_acted, unchanged_acted}
-use Rattle.command_line.proofs.LivedRuns.{left_there, run_acted, there_me}
+use Rattle.command_line.proofs.LivedRuns.{acted_on, left_there, run_acted, there_me}
+use Rattle.folder_commands.proofs.RunLemmas.{RanOn}
 
 module _ {K : Type 0} where
   -- ---- calls that read alone
@@ -157,6 +159,30 @@ as_many_shown shown (k ∷ ks) (r ∷ rs) show = ap suc (as_many_shown shown ks 
 as_many_shown shown [] (r ∷ rs) show = absurd show
 as_many_shown shown (k ∷ ks) [] show = absurd show
 
+-- keepers that are open show as many records, and stand in these
+as_many_open : {K : Type 0} (shown : K → Option Record) (keepers : List K) (rs : List Record) → AreShown shown keepers rs → length rs ≡ length keepers
+as_many_open shown [] [] show = refl
+as_many_open shown (k ∷ ks) (r ∷ rs) show = ap suc (as_many_open shown ks rs show.1)
+as_many_open shown [] (r ∷ rs) show = absurd show
+as_many_open shown (k ∷ ks) [] show = absurd show
+
+open_stands : {K : Type 0} (shown : K → Option Record) (may : K → Record → Type 0) (keepers : List K) (rs : List Record) → AreShown shown keepers rs → (i : ℕ) (k : K) (s : Standing) → slice_get keepers i ≡ Some k → slice_get (map (λ r. Up r) rs) i ≡ Some s → StandsAs (shown k) (may k) s
+open_stands shown may [] rs show i k s at to = absurd (let z : None ≡ Some k = at in cc)
+open_stands shown may (x ∷ xs) [] show i k s at to = absurd show
+open_stands shown may (x ∷ xs) (r ∷ rs) show zero k s at to =
+    subst (λ (y : Standing). StandsAs (shown k) (may k) y) (same_Some (Up r) s to) (ap shown (sym (same_Some x k at)) ∙ show.0)
+open_stands shown may (x ∷ xs) (r ∷ rs) show (suc i) k s at to = open_stands shown may xs rs show.1 i k s at to
+
+records_up : (rs : List Record) → map record_of (map (λ r. Up r) rs) ≡ rs
+records_up [] = refl
+records_up (r ∷ rs) = ap (λ (l : List Record). r ∷ l) (records_up rs)
+
+as_many_there_shown : {K : Type 0} (shown : K → Option Record) (may : K → Record → Type 0) (sent : List Frame) (a : ℕ) (keepers : List K) (last : List Record) → AllStandThere shown may sent a keepers last → length last ≡ length keepers
+as_many_there_shown shown may sent a [] [] stand = refl
+as_many_there_shown shown may sent a (k ∷ ks) (r ∷ rs) stand = ap suc (as_many_there_shown shown may sent (a + 1) ks rs stand.1)
+as_many_there_shown shown may sent a [] (r ∷ rs) stand = absurd stand
+as_many_there_shown shown may sent a (k ∷ ks) [] stand = absurd stand
+
 as_many_led : (before last : List Record) → WorldLeadsTo before last → length last ≡ length before
 as_many_led before last leads =
     let (ds, are, came, is) = runs_are_parts (world_up before []) leads.events leads.answers (world_up last leads.sent) leads.out.run in
@@ -229,34 +255,58 @@ module _ {K : Type 0} (shown : K → Option Record) (may : K → Record → Type
       closed_there : (k : K) → Contains (first ++ (opens_site folder sites site keeper ∷ mids ++ ClosedSite after ∷ [])) (ClosedSite k) → k ≡ after
       closed_there k c = ⊎_elim (λ d. absurd (not_closed first k quiet d)) (closed_end k) (Contains-append_cases first (opens_site folder sites site keeper ∷ mids ++ ClosedSite after ∷ []) (ClosedSite k) c)
 
-  -- the files of all sites were opened, the sites ran, and they were closed
-  pub all_ran : (text : List ℕ) (keepers after : List K) (rs : List Record) (lists : List RunLog) → calls ≡ ReadFile (list_path folder) text ∷ opens_from folder sites 0 keepers ++ closes_all after
-      → KeepFrom shown stored sites 0 keepers rs → length keepers ≡ length sites → RanAsAWorld shown may keepers after lists → ActTogether old new
-  all_ran text keepers after rs lists is keep number ran =
-      let read = ReadFile (list_path folder) text in
-      let opening = opens_from folder sites 0 keepers in
-      let closing = closes_all after in
-      let has : (call : FileCall K) → Contains (opening ++ closing) call → Contains calls call = λ call c. subst (λ (cs : List (FileCall K)). Contains cs call) (sym is) (Contains-append_right (read ∷ []) (opening ++ closing) call c) in
-      let same : ran.before ≡ map record_of old = same_before shown stored sites 0 keepers rs ran.before old keep ran.began (omega (arith, many, number))
-      (λ i k r o at kept to. continued.shows (file_path folder (name_at sites i)) (name_at sites i) k i o (has (opens_site folder sites i k) (Contains-append_left opening closing (opens_site folder sites i k)
-      (subst (λ (n : ℕ). Contains opening (opens_site folder sites n k)) (let z : 0 + i ≡ i = omega arith in z) (opens_there folder sites 0 keepers i k at))))
-      (Up r, kept.shows.shows, kept.shows.me ∙ (let z : 0 + i ≡ i = omega arith in z)) to) in
+  -- the sites stand where a run led whose keepers were closed
+  closed_there : (keepers after : List K) (lists : List RunLog) → length keepers ≡ length sites → ((k : K) → Contains after k → Contains calls (ClosedSite k))
+      → (ran : RanAsAWorld shown may keepers after lists) → AllStandWhereLed ran.ran.leads.sent 0 ran.ran.after new
+  closed_there keepers after lists number closes ran =
       let last = ran.ran.after in
       let sent = ran.ran.leads.sent in
       let count = as_many_led ran.before last ran.ran.leads in
       let shown_many = as_many_shown shown keepers ran.before ran.began in
       let stays_many = left.count in
-      let there : AllStandWhereLed sent 0 last new = left_there shown may sent 0 after last new ran.ran.stand (omega (arith, count, shown_many, stays_many, many, number))
+      left_there shown may sent 0 after last new ran.ran.stand (omega (arith, count, shown_many, stays_many, many, number))
       (λ i k s at to.
       let (r, in_last, stand) = stand_at shown may sent 0 after last ran.ran.stand i k at in
       let (standing, stands) = some_standing k (shown k) refl in
       let me = there_me sent (0 + i) r standing (stand standing stands) ∙ last_me ran.before last ran.ran.leads i r in_last in
-      left.closed k i s (has (ClosedSite k) (Contains-append_right opening closing (ClosedSite k) (contains-map (λ (x : K). ClosedSite x) after k (in_list after i k at)))) (standing, stands, me) to) in
-      run_acted old new ran.before last same ran.ran.leads there
+      left.closed k i s (closes k (in_list after i k at)) (standing, stands, me) to)
     where
       some_standing : (k : K) (o : Option Record) → shown k ≡ o → (standing : Standing) × StandsAs (shown k) (may k) standing
       some_standing k (Some r) at = (Up r, at)
       some_standing k None at = let some = opens k at in (Down some.0, (at, some.1))
+
+  -- runs one after another, from how the sites of these keepers stand
+  runs_on : (between : List (List K)) (keepers after : List K) (stood : List Standing) → length keepers ≡ length sites → ((k : K) → Contains after k → Contains calls (ClosedSite k))
+      → ((before : List Record) → AllShow shown keepers before → before ≡ map record_of stood) → RanOn shown may between keepers after → ActTogether stood new
+  runs_on [] keepers after stood number closes same (lists, ran) =
+      run_acted stood new ran.before ran.ran.after (same ran.before ran.began) ran.ran.leads (closed_there keepers after lists number closes ran)
+  runs_on (mid ∷ between) keepers after stood number closes same ((lists, ran), (rs, shows), on) =
+      let last = ran.ran.after in
+      let sent = ran.ran.leads.sent in
+      let ups : List Standing = map (λ r. Up r) rs in
+      let many_there : length last ≡ length mid = as_many_there_shown shown may sent 0 mid last ran.ran.stand in
+      let many_shown : length rs ≡ length mid = as_many_open shown mid rs shows in
+      let count = as_many_led ran.before last ran.ran.leads in
+      let before_many = as_many_shown shown keepers ran.before ran.began in
+      let there = left_there shown may sent 0 mid last ups ran.ran.stand (length-map rs (λ r. Up r) ∙ many_shown ∙ sym many_there) (λ i k s at to. open_stands shown may mid rs shows i k s at to) in
+      acted_on stood ups new (run_acted stood ups ran.before last (same ran.before ran.began) ran.ran.leads there)
+      (runs_on between mid after ups (omega (arith, many_there, count, before_many, number)) closes
+      (λ before show. shown_once shown mid before rs (are_shown shown mid before show) shows ∙ sym (records_up rs)) on)
+
+  -- the files of all sites were opened, the sites ran, and they were closed
+  pub all_ran : (text : List ℕ) (keepers after : List K) (rs : List Record) (between : List (List K)) → calls ≡ ReadFile (list_path folder) text ∷ opens_from folder sites 0 keepers ++ closes_all after
+      → KeepFrom shown stored sites 0 keepers rs → length keepers ≡ length sites → RanOn shown may between keepers after → ActTogether old new
+  all_ran text keepers after rs between is keep number ran =
+      let read = ReadFile (list_path folder) text in
+      let opening = opens_from folder sites 0 keepers in
+      let closing = closes_all after in
+      let has : (call : FileCall K) → Contains (opening ++ closing) call → Contains calls call = λ call c. subst (λ (cs : List (FileCall K)). Contains cs call) (sym is) (Contains-append_right (read ∷ []) (opening ++ closing) call c) in
+      runs_on between keepers after old number
+      (λ k there. has (ClosedSite k) (Contains-append_right opening closing (ClosedSite k) (contains-map (λ (x : K). ClosedSite x) after k there)))
+      (λ before began. same_before shown stored sites 0 keepers rs before old keep began (omega (arith, many, number))
+      (λ i k r o at kept to. continued.shows (file_path folder (name_at sites i)) (name_at sites i) k i o (has (opens_site folder sites i k) (Contains-append_left opening closing (opens_site folder sites i k)
+      (subst (λ (n : ℕ). Contains opening (opens_site folder sites n k)) (let z : 0 + i ≡ i = omega arith in z) (opens_there folder sites 0 keepers i k at))))
+      (Up r, kept.shows.shows, kept.shows.me ∙ (let z : 0 + i ≡ i = omega arith in z)) to)) ran
 
   -- ---- by rows
 

@@ -1,25 +1,24 @@
 -- Whatever commands a folder saw, and however each came to its end, what its sites did comes out as the headline says.
-use Rattle.std.proofs.Common.{◌≡◌, ◌⊎◌, ℕ, zero, suc, Option, Some, List, [], ◌++◌, length, map, refl, sym, ◌∙◌, ap, subst, inl, inr, slice_get, slice_set}
+use Rattle.std.proofs.Common.{◌≡◌, ◌⊎◌, ℕ, zero, suc, Option, Some, List, [], length, map, refl, sym, ◌∙◌, ap, subst, inl, inr, slice_get, slice_set}
 use Rattle.std.proofs.lemmas.Bool.{cases_eq}
 use Rattle.std.proofs.lemmas.List.{length-map, length-set}
 use Rattle.std.proofs.lemmas.Option.{same_Some}
-use Rattle.trace_core.proofs.Members.{contains_none}
 use Rattle.event_json.specs.Sites.{Site}
 use Rattle.site_core.specs.Records.{Record}
 use Rattle.site_core.specs.declared.inputs.SiteInput.{SiteInput}
 use Rattle.world_core.specs.Faults.{AreFresh, AreOneWorld}
-use Rattle.world_core.specs.Parts.{AreActs, given_by}
+use Rattle.world_core.specs.Parts.{AreActs}
 use Rattle.world_core.specs.Turns.{GoesDown}
 use Rattle.world_core.specs.Worlds.{Standing, Up, record_of, records}
 use Rattle.world_core.proofs.FreshSites.{fresh_sites_fit}
 use Rattle.world_core.proofs.Parts.{parts_come_out}
 use Rattle.world_core.proofs.RunParts.{get_set, get_set_other}
-use Rattle.world_core.proofs.RunParts.{came_more, no_acts, parts_go_on}
+use Rattle.world_core.proofs.RunParts.{no_acts}
 use Rattle.wire_core.specs.Rule.{world_up}
 use Rattle.wire_core.proofs.Running.{up_records}
 use Rattle.command_line.specs.Lives.{ActTogether, FoldersComeOut, IsOwn, Lives, WasGiven, WasKilled, WasKilledAt}
 use Rattle.command_line.proofs.Acts.{ComesBy, and_then, each_alone, goes_down, is_opened, own_carried, stays_as, takes_own}
-use Rattle.command_line.proofs.LivedRuns.{acted_alone, run_acted}
+use Rattle.command_line.proofs.LivedRuns.{acted_alone, acted_on, run_acted}
 
 -- ---- a command that was killed
 
@@ -64,9 +63,7 @@ module _ {K : Type 0} (shown : K → Option Record) (may : K → Record → Type
   lived zero old new many same = acted_none old new same
   lived (suc more) old new many (mid, c, rest) =
       let first = given old mid many c in
-      let then' = lived more mid new (first.are.count ∙ many) rest in
-      let both = parts_go_on old mid new [] first.deeds then'.deeds first.are first.came then'.are (came_more [] (given_by first.deeds) then'.deeds (λ f c. absurd (contains_none f c)) then'.came) in
-      record { deeds = first.deeds ++ then'.deeds; are = both.0; came = both.1 }
+      acted_on old mid new first (lived more mid new (first.are.count ∙ many) rest)
 
   pub folders_come_out : FoldersComeOut shown may sites
   folders_come_out start commands new one all fresh lives =

@@ -8,7 +8,8 @@ use Rattle.site_core.specs.Records.{Record}
 use Rattle.world_core.specs.Keepers.{StandsAs}
 use Rattle.world_core.specs.Parts.{CameAfter, given_by}
 use Rattle.world_core.specs.Worlds.{Standing, Up, record_of}
-use Rattle.world_core.proofs.RunParts.{parts_go_on, runs_are_parts}
+use Rattle.world_core.proofs.RunParts.{came_more, parts_go_on, runs_are_parts}
+use Rattle.trace_core.proofs.Members.{contains_none}
 use Rattle.wire_core.specs.Rule.{world_up}
 use Rattle.site_threads.specs.Gathering.{AllStandThere, StandsThere, WorldLeadsTo}
 use Rattle.site_threads.proofs.Steps.{next_me}
@@ -17,6 +18,12 @@ use Rattle.command_line.proofs.Acts.{ComesBy, DoAlone, each_alone, is_opened, st
 
 pub acted_alone : (old new : List Standing) → DoAlone [] old new → ActTogether old new
 acted_alone old new alone = record { deeds = alone.deeds; are = alone.are; came = alone.came }
+
+-- one after another
+pub acted_on : (old mid new : List Standing) → ActTogether old mid → ActTogether mid new → ActTogether old new
+acted_on old mid new first more =
+    let both = parts_go_on old mid new [] first.deeds more.deeds first.are first.came more.are (came_more [] (given_by first.deeds) more.deeds (λ f c. absurd (contains_none f c)) more.came) in
+    record { deeds = first.deeds ++ more.deeds; are = both.0; came = both.1 }
 
 -- the sites stand where a run led
 stand_by : (sent : List Frame) (a : ℕ) (last : List Record) (new : List Standing) → AllStandWhereLed sent a last new → (i : ℕ) (o n : Standing) → slice_get (map (λ r. Up r) last) i ≡ Some o → slice_get new i ≡ Some n → ComesBy sent (a + i) o n

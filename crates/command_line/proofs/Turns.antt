@@ -9,7 +9,7 @@ use Rattle.command_line.specs.declared.asked.Terms.{Terms}
 
 in_range : (found : Option (Text × List Row)) (command : FileCommand) (terms : Terms) → AsksNamed found (asked.Files command terms) → HasTurns command
 in_range None command terms is = absurd is
-in_range (Some (name, rows)) (Run folder run) terms ((named_so, folder_is, turns_are, least, most, unless_gaps, coded), others) = most
+in_range (Some (name, rows)) (Run folder run) terms ((named_so, folder_is, turns_are, least, most, until_ended, unless_gaps, coded), others) = most
 in_range (Some entry) (Init folder list) terms is = tt
 in_range (Some entry) (Copy folder to) terms is = tt
 in_range (Some entry) (Capture folder site file) terms is = tt

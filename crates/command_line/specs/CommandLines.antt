@@ -128,7 +128,7 @@ turns =
     }
 
 abbrev pub run : App
-run = with_rule (with_rule (with_rule (on_folder (codes "run")) turns) (flag (codes "unless-gaps"))) (flag (codes "exit-code"))
+run = with_rule (with_rule (with_rule (with_rule (on_folder (codes "run")) turns) (flag (codes "until-ended"))) (flag (codes "unless-gaps"))) (flag (codes "exit-code"))
 
 -- a command that can also be asked to print rows, or a picture
 abbrev pub with_forms : App → App
@@ -329,7 +329,7 @@ IsCommand (Start folder site item dry) name rows =
     × (IsTrue dry ↔ IsSet rows (codes "dry-run"))
 IsCommand (Run folder terms) name rows =
     (name ≡ codes "run") × Gives rows (codes "dir") folder.now × GivesNumber rows (codes "turns") terms.turns × (1 ≤ terms.turns) × (terms.turns ≤ 1000000)
-    × (IsTrue terms.unless_gaps ↔ IsSet rows (codes "unless-gaps")) × (IsTrue terms.coded ↔ IsSet rows (codes "exit-code"))
+    × (IsTrue terms.until_ended ↔ IsSet rows (codes "until-ended")) × (IsTrue terms.unless_gaps ↔ IsSet rows (codes "unless-gaps")) × (IsTrue terms.coded ↔ IsSet rows (codes "exit-code"))
 IsCommand (Report folder recall ways events) name rows =
     (name ≡ codes "report") × Gives rows (codes "dir") folder.now × Gives rows (codes "recall") recall.now × GivesWays rows ways
     × (IsTrue events ↔ IsSet rows (codes "events"))

@@ -313,6 +313,7 @@ fn all_sites_command<'a>(folder: &'a str, given: &ArgMatches<'a>) -> Option<File
     }
     let terms = RunTerms {
         turns,
+        until_ended: is_set(given, "until-ended"),
         unless_gaps: is_set(given, "unless-gaps"),
         coded: is_set(given, "exit-code"),
     };

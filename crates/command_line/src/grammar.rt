@@ -120,6 +120,11 @@ fn run<'a>(alloc: Global) -> Result<Command<'a>, AllocError>
         .arg(turns(alloc))?
         .arg(flag(
             alloc,
+            "until-ended",
+            "Run so many turns again and again, until each recall has ended or nothing moves",
+        ))?
+        .arg(flag(
+            alloc,
             "unless-gaps",
             "Send nothing, and end with status 5, where an open recall misses items",
         ))?

@@ -173,14 +173,15 @@ pub(crate) const RUN_ABOUT: &str =
 pub(crate) const RUN_EXAMPLE: &str = "\
 Each site sends what waits for other sites, takes what they send, and signals what it has dealt with. Then
 each recall that a site began is printed: `<recall> ended` or `<recall> open`. One that is open continues in
-the next run. Where the sites' records are inconsistent nothing is run: `misfit <condition> <site>`.
+the next run; with `--until-ended` there is one after another, until each recall has ended or nothing moves any
+more. Where the sites' records are inconsistent nothing is run: `misfit <condition> <site>`.
 
 `missed <n> at <site>` says that open recalls reach items which that site sent on in containers that others
 packed. Once a recall has come to the site it can't capture those packings any more, so let it capture them
 before: with `--unless-gaps` nothing is sent then, and `withheld` is printed.
 
 Examples:
-  recall run chain --turns 5000
+  recall run chain --until-ended
   recall run chain --unless-gaps --exit-code
 
 Status: 0 done, 3 a fault, 4 a misfit; 5 with `--unless-gaps` where items are missed, and with `--exit-code`

@@ -8,6 +8,7 @@ pub mod LintLemmas
 pub mod MakingLemmas
 pub mod NoteLaws
 pub mod NoteLemmas
+pub mod RoundLemmas
 pub mod RunLemmas
 pub mod StepLemmas
 pub mod WordLemmas

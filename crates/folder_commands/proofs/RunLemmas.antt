@@ -27,7 +27,7 @@ use Rattle.world_core.specs.declared.faults.WorldFault.TheVariants as worlds
 use Rattle.site_folders.specs.FileCalls.{FileCall}
 use Rattle.site_folders.specs.Keepers.{AreShown}
 use Rattle.site_folders.proofs.CallsInTurn.{are_shown}
-use Rattle.folder_commands.specs.Runs.{AnswersRun, AnswersUnless, BreaksRun, CameToItsEnd, FailsRun, TellsCause, TellsRecalls, Withholds, gather_fault}
+use Rattle.folder_commands.specs.Runs.{AnswersRounds, AnswersRun, AnswersUnless, BreaksRun, CameToItsEnd, FailsRounds, FailsRun, GoOn, TellsCause, TellsRecalls, Withholds, gather_fault, leaves_open}
 use Rattle.folder_commands.specs.Notes.{AreOfSites, EndsSo}
 use Rattle.trace_core.specs.declared.pairs.Pair.{Pair}
 use Rattle.folder_commands.specs.declared.notes.RunEnd.{RunEnd}
@@ -119,40 +119,83 @@ module _ {K : Type 0} (shown : K → Option Record) where
     misfit_told failed terms old new (SiteLost site) outcome end hinders fit told none = absurd told
     misfit_told failed terms old new (GaveUp site) outcome end hinders fit told none = absurd told
 
--- a run has an outcome where it ran, or where nothing was done
+-- a run has an outcome where it came to its end, or where nothing was done
 module _ {K : Type 0} (shown : K → Option Record) (failed : K → ℕ) (may : K → Record → Type 0) (terms : RunTerms) (old new : List K) where
-  abbrev DidOrNot : Type 0
-  DidOrNot = (new ≡ old) ⊎ ((lists : List RunLog) × RanAsAWorld shown may old new lists)
+  abbrev CameOrNot : Option RunEnd → Type 0
+  CameOrNot end = ((new ≡ old) × (end ≡ None)) ⊎ ((recalls : List StartedRecall) × (last : RunEnd) × (end ≡ Some last) × CameToItsEnd shown failed may terms old new recalls last)
 
-  pub ran_or_not : (outcome : Outcome) (end : Option RunEnd) → AnswersRun shown failed may terms old new outcome end → DidOrNot
-  ran_or_not (outcomes.Ran recalls coded) (Some end) answers = inr (answers.1.lists, answers.1.run)
-  ran_or_not (outcomes.Inconsistent misfit) end answers = inl answers.1
-  ran_or_not (outcomes.Ran recalls coded) None answers = absurd answers
-  ran_or_not outcomes.Withheld end answers = absurd answers
-  ran_or_not outcomes.Created end answers = absurd answers
-  ran_or_not (outcomes.Stepped effects) end answers = absurd answers
-  ran_or_not (outcomes.Reported recall report ways events) end answers = absurd answers
-  ran_or_not (outcomes.Traced trace ways events) end answers = absurd answers
-  ran_or_not (outcomes.TracedBack trace ways events) end answers = absurd answers
-  ran_or_not (outcomes.Standing recalls coded) end answers = absurd answers
-  ran_or_not (outcomes.Waiting detail coded) end answers = absurd answers
-  ran_or_not (outcomes.Known site items) end answers = absurd answers
-  ran_or_not (outcomes.Covered sites) end answers = absurd answers
-  ran_or_not (outcomes.WouldStart plan ended) end answers = absurd answers
-  ran_or_not (outcomes.Audited recalls coded) end answers = absurd answers
-  ran_or_not (outcomes.Gaps gaps coded) end answers = absurd answers
-  ran_or_not (outcomes.Refused whys) end answers = absurd answers
+  came_or_not : (outcome : Outcome) (end : Option RunEnd) → AnswersRun shown failed may terms old new outcome end → CameOrNot end
+  came_or_not (outcomes.Ran recalls coded) (Some end) answers = inr (recalls.items, end, refl, answers.1)
+  came_or_not (outcomes.Inconsistent misfit) end answers = inl (answers.1, answers.2)
+  came_or_not (outcomes.Ran recalls coded) None answers = absurd answers
+  came_or_not outcomes.Withheld end answers = absurd answers
+  came_or_not outcomes.Created end answers = absurd answers
+  came_or_not (outcomes.Stepped effects) end answers = absurd answers
+  came_or_not (outcomes.Reported recall report ways events) end answers = absurd answers
+  came_or_not (outcomes.Traced trace ways events) end answers = absurd answers
+  came_or_not (outcomes.TracedBack trace ways events) end answers = absurd answers
+  came_or_not (outcomes.Standing recalls coded) end answers = absurd answers
+  came_or_not (outcomes.Waiting detail coded) end answers = absurd answers
+  came_or_not (outcomes.Known site items) end answers = absurd answers
+  came_or_not (outcomes.Covered sites) end answers = absurd answers
+  came_or_not (outcomes.WouldStart plan ended) end answers = absurd answers
+  came_or_not (outcomes.Audited recalls coded) end answers = absurd answers
+  came_or_not (outcomes.Gaps gaps coded) end answers = absurd answers
+  came_or_not (outcomes.Refused whys) end answers = absurd answers
 
-  -- so it is of one that may be withheld
-  pub unless_or_not : (missed : List Pair) (outcome : Outcome) (end : Option RunEnd) → AnswersUnless shown failed may terms missed old new outcome end → DidOrNot
-  unless_or_not missed outcome end answers = ⊎_elim
-      (λ (w : Withholds shown failed may terms missed old new outcome end). inl w.3)
-      (λ (r : (terms.unless_gaps ≡ true → missed ≡ []) × AnswersRun shown failed may terms old new outcome end). ran_or_not outcome end r.1)
-      answers
+  pub ran_or_not : (outcome : Outcome) (end : Option RunEnd) → AnswersRun shown failed may terms old new outcome end → (new ≡ old) ⊎ ((lists : List RunLog) × RanAsAWorld shown may old new lists)
+  ran_or_not outcome end answers = ⊎_elim
+      (λ (none : (new ≡ old) × (end ≡ None)). inl none.0)
+      (λ (came : (recalls : List StartedRecall) × (last : RunEnd) × (end ≡ Some last) × CameToItsEnd shown failed may terms old new recalls last). inr (came.3.lists, came.3.run))
+      (came_or_not outcome end answers)
+
+  -- a recall is open after it, so it came to its end
+  pub came_open : (outcome : Outcome) (end : Option RunEnd) → AnswersRun shown failed may terms old new outcome end → leaves_open end ≡ true
+      → (recalls : List StartedRecall) × (last : RunEnd) × CameToItsEnd shown failed may terms old new recalls last × (last.unended ≡ true)
+  came_open outcome end answers left = ⊎_elim
+      (λ (none : (new ≡ old) × (end ≡ None)). absurd (let no : leaves_open None ≡ true = subst (λ (o : Option RunEnd). leaves_open o ≡ true) none.1 left in cc))
+      (λ (came : (recalls : List StartedRecall) × (last : RunEnd) × (end ≡ Some last) × CameToItsEnd shown failed may terms old new recalls last).
+      (came.0, came.1, came.3, subst (λ (o : Option RunEnd). leaves_open o ≡ true) came.2 left))
+      (came_or_not outcome end answers)
+
+-- runs one after another, of which each but the last one leaves the keepers open
+module _ {K : Type 0} (shown : K → Option Record) (may : K → Record → Type 0) where
+  abbrev pub RanOn : List (List K) → List K → List K → Type 0
+  RanOn [] old new = (lists : List RunLog) × RanAsAWorld shown may old new lists
+  RanOn (mid ∷ between) old new = ((lists : List RunLog) × RanAsAWorld shown may old mid lists) × ((rs : List Record) × AreShown shown mid rs) × RanOn between mid new
+
+  -- there was one, or the keepers are as they were
+  abbrev pub RanOrNot : List K → List K → Type 0
+  RanOrNot old new = (new ≡ old) ⊎ ((between : List (List K)) × RanOn between old new)
+
+  -- of runs that go on, and of a last one, where there was one
+  pub go_on_then : (failed : K → ℕ) (terms : RunTerms) (between : List (List K)) (old last new : List K) → GoOn shown failed may terms between old last → (new ≡ last) ⊎ ((lists : List RunLog) × RanAsAWorld shown may last new lists) → RanOrNot old new
+  go_on_then failed terms [] old last new led (inl same) = inl (same ∙ led)
+  go_on_then failed terms [] old last new led (inr (lists, ran)) = inr ([], (lists, subst (λ (ks : List K). RanAsAWorld shown may ks new lists) led ran))
+  go_on_then failed terms (mid ∷ between) old last new led did =
+      ⊎_elim
+      (λ (same : new ≡ mid). inr ([], (led.0.came.lists, subst (λ (ks : List K). RanAsAWorld shown may old ks led.0.came.lists) (sym same) led.0.came.run)))
+      (λ (more : (between : List (List K)) × RanOn between mid new). inr (mid ∷ more.0, ((led.0.came.lists, led.0.came.run), (led.0.came.told.records, led.0.came.told.shows), more.1)))
+      (go_on_then failed terms between mid last new led.1 did)
+
+-- a run that may be withheld has an outcome where it ran, or where nothing was done
+pub unless_or_not : {K : Type 0} (shown : K → Option Record) (failed : K → ℕ) (may : K → Record → Type 0) (terms : RunTerms) (old new : List K) (missed : List Pair) (outcome : Outcome) (end : Option RunEnd) → AnswersUnless shown failed may terms missed old new outcome end → RanOrNot shown may old new
+unless_or_not shown failed may terms old new missed outcome end answers = ⊎_elim
+    (λ (w : Withholds shown failed may terms missed old new outcome end). inl w.3)
+    (λ (r : (terms.unless_gaps ≡ true → missed ≡ []) × AnswersRounds shown failed may terms old new outcome end).
+    go_on_then shown may failed terms r.1.between old r.1.last new r.1.led (ran_or_not shown failed may terms r.1.last new outcome end r.1.answers))
+    answers
 
 -- so it is of a run that broke off
 pub broke_or_not : {K G : Type 0} (shown : K → Option Record) (failed : K → ℕ) (may : K → Record → Type 0) (reopens : K → Result K (Unopened K) → Type 0) (gives_up : G → ℕ → ℕ → Type 0) (stored : K → Type 0) (folder : List ℕ) (terms : RunTerms) (fault : Fault) (sites : List Site) (calls : List (FileCall K))
-    → (broke : BreaksRun shown failed may reopens gives_up stored folder terms fault sites calls) → (broke.after ≡ broke.keepers) ⊎ ((lists : List RunLog) × RanAsAWorld shown may broke.keepers broke.after lists)
+    → (broke : BreaksRun shown failed may reopens gives_up stored folder terms fault sites calls) → RanOrNot shown may broke.keepers broke.after
 broke_or_not {K} {G} shown failed may reopens gives_up stored folder terms fault sites calls broke =
-    ⊎_elim (λ (f : FailsRun shown may reopens gives_up terms.turns broke.keepers broke.after fault). f.ran)
+    ⊎_elim
+    (λ (f : FailsRounds shown failed may reopens gives_up terms broke.keepers broke.after fault). go_on_then shown may failed terms f.between broke.keepers f.last broke.after f.led f.fails.ran)
     (λ (m : (fault ≡ faults.NoMemory) × (missed : List Pair) × (outcome : Outcome) × (end : Option RunEnd) × AnswersUnless shown failed may terms missed broke.keepers broke.after outcome end). unless_or_not shown failed may terms broke.keepers broke.after m.1 m.2 m.3 m.4) broke.came
+
+-- so it is of an outcome and an end that are these
+pub told_by : {K : Type 0} (shown : K → Option Record) (failed : K → ℕ) (may : K → Record → Type 0) (terms : RunTerms) (missed : List Pair) (old new : List K) (outcome told : Outcome) (end last : Option RunEnd) → outcome ≡ told → end ≡ last
+    → AnswersUnless shown failed may terms missed old new outcome end → AnswersUnless shown failed may terms missed old new told last
+told_by shown failed may terms missed old new outcome told end last is ends answers =
+    subst (λ (e : Option RunEnd). AnswersUnless shown failed may terms missed old new told e) ends (subst (λ (o : Outcome). AnswersUnless shown failed may terms missed old new o end) is answers)

@@ -1,6 +1,7 @@
 -- What a run of all sites comes to.
-use Rattle.std.specs.Prelude.{◌≡◌, ◌≢◌, ◌⊎◌, ◌++◌, ℕ, true, List, [], All, length, map, Option, Some, None, Result}
-use Rattle.std.specs.List.{AllZip}
+use Rattle.std.specs.Prelude.{◌≡◌, ◌≢◌, ◌⊎◌, ◌++◌, ◌+◌, ℕ, Bool, true, false, List, [], ◌∷◌, All, length, map, Option, Some, None, Result}
+use Rattle.std.specs.FinMap as tables
+use Rattle.std.specs.List.{AllZip, flat_map}
 use Rattle.event_json.specs.Sites.{Site}
 use Rattle.keeper_core.specs.declared.faults.Unopened.{Unopened}
 use Rattle.recall_outcomes.specs.declared.faults.Fault.{Fault}
@@ -31,6 +32,7 @@ use Rattle.trace_core.specs.declared.pairs.Pair.{Pair}
 use Rattle.folder_commands.specs.Missing.{AreMissed}
 use Rattle.folder_commands.specs.Notes.{EndsSo, NotesEnd}
 use Rattle.folder_commands.specs.declared.notes.RunEnd.{RunEnd}
+use Rattle.folder_commands.specs.declared.rounds.TheConstants.{MOST_ROUNDS}
 use Rattle.folder_commands.specs.declared.runs.RunTerms.{RunTerms}
 
 -- the keepers show records that stand together, and these are the recalls that sites have begun in them, in order
@@ -67,15 +69,6 @@ module _ {K : Type 0} (shown : K → Option Record) (failed : K → ℕ) (may : 
   AnswersRun old new (Inconsistent misfit) end = TellsTheMisfit shown old misfit × (new ≡ old) × (end ≡ None)
   AnswersRun old new other end = ⊥
 
-  -- where open recalls miss items and the terms say so, there was no run, and the keepers are as they were
-  abbrev pub Withholds : List Pair → List K → List K → Outcome → Option RunEnd → Type 0
-  Withholds missed old new outcome end = (terms.unless_gaps ≡ true) × (missed ≢ []) × (outcome ≡ outcomes.Withheld) × (new ≡ old) × (end ≡ None)
-
-  -- else there was, or could be
-  abbrev pub AnswersUnless : List Pair → List K → List K → Outcome → Option RunEnd → Type 0
-  AnswersUnless missed old new outcome end =
-      Withholds missed old new outcome end ⊎ ((terms.unless_gaps ≡ true → missed ≡ []) × AnswersRun old new outcome end)
-
 -- of the causes that prevent a run, the misfit alone is an outcome
 abbrev pub TellsWorldFault : WorldFault → Outcome → Type 0
 TellsWorldFault (worlds.Misfit misfit) outcome = outcome ≡ Inconsistent misfit
@@ -108,6 +101,82 @@ pub record FailsRun {K G : Type 0} (shown : K → Option Record) (may : K → Re
   pub explained : Explains shown reopens gives_up turns new cause
   pub fault_is : gather_fault cause ≡ Some fault
   pub ran : (new ≡ old) ⊎ ((lists : List RunLog) × RanAsAWorld shown may old new lists)
+
+-- ---- a run that goes on, in rounds of so many turns, until its recalls have ended or nothing moves any more
+
+-- how many messages of others a site has dealt with, and how many of its own wait for a signal. A step of a frame that changes
+-- the site's record changes one of the two
+abbrev pub traffic_of : Record → List ℕ
+traffic_of r = length (tables.entries r.engagement.seen) ∷ length (tables.entries r.engagement.outbox) ∷ []
+
+-- there was a run, and a recall is open after it
+abbrev pub leaves_open : Option RunEnd → Bool
+leaves_open None = false
+leaves_open (Some end) = end.unended
+
+module _ {K : Type 0} (shown : K → Option Record) where
+  -- in the records that the keepers show it is so
+  abbrev pub HaveTraffic : List K → List ℕ → Type 0
+  HaveTraffic keepers traffic = (records : List Record) → AreShown shown keepers records → traffic ≡ flat_map traffic_of records
+
+  -- no site has dealt with a message since, and no message was signalled
+  abbrev pub AreStill : List K → List K → Type 0
+  AreStill old new = (before after : List Record) → AreShown shown old before → AreShown shown new after → flat_map traffic_of before ≡ flat_map traffic_of after
+
+  -- whether another run follows: a recall is open, and what the sites have dealt with isn't what it was before
+  abbrev pub TellsWhether : List ℕ → List K → Option RunEnd → Bool → Type 0
+  TellsWhether before new end true = (leaves_open end ≡ true) × (traffic : List ℕ) × HaveTraffic new traffic × (traffic ≢ before)
+  TellsWhether before new end false = (leaves_open end ≡ false) ⊎ HaveTraffic new before
+
+  -- no recall is open after the run, or nothing moved in it
+  abbrev pub HasRested : List K → List K → Option RunEnd → Type 0
+  HasRested old new end = (leaves_open end ≡ false) ⊎ AreStill old new
+
+module _ {K : Type 0} (shown : K → Option Record) (failed : K → ℕ) (may : K → Record → Type 0) (terms : RunTerms) where
+  -- a run that came to its end with a recall open, and in which something moved: another one follows
+  pub record GoesOn (old new : List K) : Type 0 where
+    pub recalls : List StartedRecall
+    pub end : RunEnd
+    pub came : CameToItsEnd shown failed may terms old new recalls end
+    pub unended : end.unended ≡ true
+    pub moved : AreStill shown old new → ⊥
+
+  -- such runs one after another, which leave the keepers so in between, lead from these keepers to those
+  abbrev pub GoOn : List (List K) → List K → List K → Type 0
+  GoOn [] old new = new ≡ old
+  GoOn (mid ∷ between) old new = GoesOn old mid × GoOn between mid new
+
+  -- no other one follows, since there were as many as there are at most, or for one of these two reasons
+  abbrev pub IsOver : ℕ → List K → List K → Option RunEnd → Type 0
+  IsOver rounds old new end = HasRested shown old new end ⊎ (rounds ≡ MOST_ROUNDS)
+
+  -- after such runs, none where it isn't asked for, the last one has this outcome
+  pub record AnswersRounds (old new : List K) (outcome : Outcome) (end : Option RunEnd) : Type 0 where
+    pub between : List (List K)
+    pub asked : terms.until_ended ≡ false → between ≡ []
+    pub last : List K
+    pub led : GoOn between old last
+    pub answers : AnswersRun shown failed may terms last new outcome end
+    pub over : terms.until_ended ≡ true → IsOver (length between + 1) last new end
+
+  -- where open recalls miss items and the terms say so, there was no run, and the keepers are as they were
+  abbrev pub Withholds : List Pair → List K → List K → Outcome → Option RunEnd → Type 0
+  Withholds missed old new outcome end = (terms.unless_gaps ≡ true) × (missed ≢ []) × (outcome ≡ outcomes.Withheld) × (new ≡ old) × (end ≡ None)
+
+  -- else there was, or could be
+  abbrev pub AnswersUnless : List Pair → List K → List K → Outcome → Option RunEnd → Type 0
+  AnswersUnless missed old new outcome end =
+      Withholds missed old new outcome end ⊎ ((terms.unless_gaps ≡ true → missed ≡ []) × AnswersRounds old new outcome end)
+
+-- after runs that go on, none where it isn't asked for, the last one has no outcome
+pub record FailsRounds {K G : Type 0} (shown : K → Option Record) (failed : K → ℕ) (may : K → Record → Type 0) (reopens : K → Result K (Unopened K) → Type 0) (gives_up : G → ℕ → ℕ → Type 0) (terms : RunTerms) (old new : List K) (fault : Fault) : Type 0 where
+  pub between : List (List K)
+  pub asked : terms.until_ended ≡ false → between ≡ []
+  pub last : List K
+  pub led : GoOn shown failed may terms between old last
+  pub fails : FailsRun shown may reopens gives_up terms.turns last new fault
+
+-- ---- of a folder
 
 module _ {K : Type 0} (knows : List ℕ → List ℕ → Type 0) (shown : K → Option Record) (failed : K → ℕ) (may : K → Record → Type 0) (stored : K → Type 0) (folder : List ℕ) where
   -- the files of all sites were opened, the sites ran on these terms, and the files were closed, on each of which a crash
@@ -143,7 +212,7 @@ module _ {K G : Type 0} (shown : K → Option Record) (failed : K → ℕ) (may 
     pub number : length keepers ≡ length sites
     pub after : List K
     pub came :
-        FailsRun shown may reopens gives_up terms.turns keepers after fault
+        FailsRounds shown failed may reopens gives_up terms keepers after fault
         ⊎ ((fault ≡ faults.NoMemory) × (missed : List Pair) × (outcome : Outcome) × (end : Option RunEnd) × AnswersUnless shown failed may terms missed keepers after outcome end)
     pub lasts : All stored after
     pub calls_are : calls ≡ opens_from folder sites 0 keepers ++ closes_all after

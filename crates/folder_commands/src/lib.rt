@@ -13,6 +13,7 @@ mod lints;
 mod making;
 mod missing;
 mod notes;
+mod rounds;
 mod runs;
 mod steps;
 mod untraced;

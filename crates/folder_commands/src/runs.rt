@@ -1,6 +1,6 @@
 //! `run`: all sites of a folder, each in a thread of its own.
 
-ghost use Rattle.std.specs.Prelude.{◌≡◌, ◌≤◌, List, None, Some, All, IfErr, IfOk, IsSome, length, map};
+ghost use Rattle.std.specs.Prelude.{◌≡◌, ◌≤◌, List, None, Some, All, IfErr, IfOk, IsSome, is_some, length, map, true};
 ghost use Rattle.site_core.specs.Records.{Record};
 ghost use Rattle.site_recovery.specs.FittingAt.{AreAllSites};
 ghost use Rattle.site_threads.specs.Ends.{IsUnused};
@@ -9,10 +9,11 @@ ghost use Rattle.site_folders.specs.FileCalls.{Led};
 ghost use Rattle.site_folders.specs.Keepers.{AreShown};
 ghost use Rattle.folder_commands.specs.Missing.{AreMissed};
 ghost use Rattle.folder_commands.specs.Notes.{AreOfSites, EndsSo};
-ghost use Rattle.folder_commands.specs.Runs.{AnswersRun, AnswersUnless, FailsRun, RunFails, RunsAt, TellsCause, TellsRecalls, gather_fault};
+ghost use Rattle.folder_commands.specs.Runs.{AnswersRun, AnswersUnless, FailsRounds, FailsRun, RunFails, RunsAt, TellsCause, TellsRecalls, gather_fault};
 
 use crate::missing::missed_before;
 use crate::notes::{RunEnd, end_of, failures_of, notes_of};
+use crate::rounds::run_rounds;
 use keeper_core::SiteKeeper;
 use recall_outcomes::{Fault, Outcome, Output, StartedRecall};
 use site_folders::{Files, begun, close_all, open_all, open_records, sites_of};
@@ -29,6 +30,8 @@ use world_core::WorldFault;
 pub struct RunTerms {
     /// For how many turns: at most 1,000,000.
     pub turns: u64,
+    /// Whether they run again until each recall has ended, or in so many turns no message was dealt with or signalled.
+    pub until_ended: bool,
     /// Whether they don't run where open recalls miss items.
     pub unless_gaps: bool,
     /// Whether the program's status tells that a recall is open after it.
@@ -36,10 +39,28 @@ pub struct RunTerms {
 }
 
 /// A run of all sites: what it came to, and what it ended with, where there was one.
-#[derive(Debug, Drop)]
-struct Ran {
-    outcome: Outcome,
-    end: Option<RunEnd>,
+#[derive(Debug)]
+pub(crate) struct Ran {
+    pub(crate) outcome: Outcome,
+    pub(crate) end: Option<RunEnd>,
+}
+
+// It is written out, so that a caller does not prove again how each part is dropped.
+impl Drop for Ran {
+    fn drop(self) {
+        let Ran { outcome: _, end: _ } = self;
+    }
+}
+
+impl Ran {
+    /// What it came to, and what it ended with.
+    fn into_parts(self) -> (Outcome, Option<RunEnd>)
+        ensures outcome { result.0 ≡ self.outcome }
+        ensures end { result.1 ≡ self.end }
+    {
+        let Ran { outcome, end } = self;
+        (outcome, end)
+    }
 }
 
 /// Runs all sites of a folder, each in a thread of its own, where one can be made.
@@ -92,7 +113,8 @@ pub fn run_sites<
     let keepers = open_all(alloc, files, folder, &sites)?;
     let (after, ran) = run_unless(rt, alloc, keepers, gate, terms);
     close_all(files, after);
-    let (Ran { outcome, end }, missed) = ran?;
+    let (done, missed) = ran?;
+    let (outcome, end) = done.into_parts();
     let notes = notes_of(alloc, files, folder, &sites, &end, missed)?;
     Ok(Output {
         sites,
@@ -121,7 +143,7 @@ fn run_unless<K: SiteKeeper + Send, G: Gate + Copy + Send, R: Threads + Wait + C
     ensures answered { IfOk result.1 (λ told. AnswersUnless K.shown K.failed K.may terms told.1.items
         keepers.items result.0.items told.0.outcome told.0.end) }
     ensures stored { All K.stored keepers.items → All K.stored result.0.items }
-    ensures failed { IfErr result.1 (FailsRun K.shown K.may K.reopens G.gives_up terms.turns
+    ensures failed { IfErr result.1 (FailsRounds K.shown K.failed K.may K.reopens G.gives_up terms
         keepers.items result.0.items) }
 {
     let Ok(missed) = missed_before(alloc, keepers.as_slice()) else {
@@ -134,7 +156,7 @@ fn run_unless<K: SiteKeeper + Send, G: Gate + Copy + Send, R: Threads + Wait + C
         };
         return (keepers, Ok((withheld, missed)));
     }
-    let (after, ran) = run_of(rt, alloc, keepers, gate, terms);
+    let (after, ran) = run_rounds(rt, alloc, keepers, gate, terms);
     match ran {
         Ok(ran) => (after, Ok((ran, missed))),
         Err(fault) => (after, Err(fault)),
@@ -152,7 +174,7 @@ fn run_unless<K: SiteKeeper + Send, G: Gate + Copy + Send, R: Threads + Wait + C
 /// changed.
 ///
 /// What the keepers stored before, they store after it, also where it has no outcome.
-fn run_of<K: SiteKeeper + Send, G: Gate + Copy + Send, R: Threads + Wait + Clock + Sync>(
+pub(crate) fn run_of<K: SiteKeeper + Send, G: Gate + Copy + Send, R: Threads + Wait + Clock + Sync>(
     rt: &R,
     alloc: Global,
     keepers: Vec<K>,
@@ -164,6 +186,9 @@ fn run_of<K: SiteKeeper + Send, G: Gate + Copy + Send, R: Threads + Wait + Clock
     ensures answered { IfOk result.1 (λ ran.
         AnswersRun K.shown K.failed K.may terms keepers.items result.0.items ran.outcome
         ran.end) }
+    // Where there was a run, it may be told again in which records the keepers are open, or may be opened.
+    ensures fit { IfOk result.1 (λ ran. is_some ran.end ≡ true
+        → KeepersFit K.shown K.may result.0.items) }
     // Whether it has an answer or not, what the keepers stored before the run they store after it.
     ensures stored { All K.stored keepers.items → All K.stored result.0.items }
     ensures failed { IfErr result.1 (FailsRun K.shown K.may K.reopens G.gives_up terms.turns

@@ -25,6 +25,7 @@ complete -c recall -n __fish_use_subcommand -f -a run -d 'Runs all sites, each i
 complete -c recall -n '__fish_seen_subcommand_from run' -l json -d 'Print JSON, an object a line'
 complete -c recall -n '__fish_seen_subcommand_from run' -l wait -x -d 'Wait so long for a site\'s file that another program has open, 0 to 86400 [default: 0]'
 complete -c recall -n '__fish_seen_subcommand_from run' -l turns -x -d 'The turns that each site makes, 1 to 1000000 [default: 2000]'
+complete -c recall -n '__fish_seen_subcommand_from run' -l until-ended -d 'Run so many turns again and again, until each recall has ended or nothing moves'
 complete -c recall -n '__fish_seen_subcommand_from run' -l unless-gaps -d 'Send nothing, and end with status 5, where an open recall misses items'
 complete -c recall -n '__fish_seen_subcommand_from run' -l exit-code -d 'End with status 5 while a recall is open'
 complete -c recall -n '__fish_seen_subcommand_from run' -l help -d 'Print help'

@@ -1,7 +1,7 @@
 use Rattle.std.proofs.Common.{[], ◌∷◌, refl, ap, ◌∙◌, subst}
 use Rattle.std.specs.Prelude.{◌||◌, string_bytes}
 use Rattle.std.specs.Io.KnownBytes.{Appends}
-use Rattle.document_convert.specs.Converted.{AreConverted, AreLinesOf, documents_of}
+use Rattle.document_convert.specs.Converted.{AreConverted}
 use Rattle.document_convert.specs.Texts.{pieces_of}
 use Rattle.site_folders.specs.FileCalls.{ReadFile}
 use Rattle.site_folders.proofs.CallsInTurn.{handed_on}

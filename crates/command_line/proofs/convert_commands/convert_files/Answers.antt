@@ -1,4 +1,4 @@
-use Rattle.std.proofs.Common.{ℕ, List, Bor, inl, inr, map, refl, subst}
+use Rattle.std.proofs.Common.{ℕ, List, Bor, inl, inr, map, subst}
 use Rattle.site_folders.specs.FileCalls.{Led}
 use Rattle.command_line.specs.Converting.{ConvertFails, Converts}
 use Rattle.command_line.proofs.convert_commands.convert_files.Goals as goal

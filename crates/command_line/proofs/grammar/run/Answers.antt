@@ -6,4 +6,5 @@ pub returns : goal.returns
 returns c =
     let with1 = adds_rule _ _ _ _ _ c.in_ok-arg.ensures c.turns.ensures.local c.in_ok-on_folder.ensures c.turns.ensures.rule in
     let with2 = adds_rule _ _ _ _ _ c.in_ok-arg-2.ensures c.flag.ensures.local with1 c.flag.ensures.rule in
-    IfOk-weaker c.arg-3.result _ _ (λ command adds. adds_rule _ _ command _ _ adds c.exit_code.ensures.local with2 c.exit_code.ensures.rule) c.arg-3.ensures
+    let with3 = adds_rule _ _ _ _ _ c.in_ok-arg-3.ensures c.flag-2.ensures.local with2 c.flag-2.ensures.rule in
+    IfOk-weaker c.arg-4.result _ _ (λ command adds. adds_rule _ _ command _ _ adds c.exit_code.ensures.local with3 c.exit_code.ensures.rule) c.arg-4.ensures

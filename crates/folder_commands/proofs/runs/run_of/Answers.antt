@@ -1,4 +1,6 @@
-use Rattle.std.proofs.Common.{map, ap, refl, ◌∙◌, inl}
+use Rattle.std.proofs.Common.{◌≡◌, map, ap, refl, sym, ◌∙◌, inl, is_some, subst, true, Option}
+use Rattle.std.proofs.lemmas.Bool.{true≢false}
+use Rattle.folder_commands.specs.declared.notes.RunEnd.{RunEnd}
 use Rattle.site_threads.specs.declared.gather.GatherCause.TheVariants.{NotAWorld}
 use Rattle.world_core.specs.declared.faults.WorldFault.TheVariants as worlds
 use Rattle.site_folders.proofs.CallsInTurn.{ok_so}
@@ -37,6 +39,19 @@ returns-clause-answered g c =
     let why = c.in-Err.ensures.fault.err in
     ok_so c.tell_cause.result
     (λ r told. misfit_told g.K.SiteKeeper.shown g.K.SiteKeeper.may g.K.SiteKeeper.failed c.args.terms c.args.keepers.items left.keepers.items left.cause r.outcome r.end why.0 why.1 told.0 told.1)
+    c.tell_cause.ensures.answered
+
+pub returns-in-Ok-run_world-clause-fit : goal.returns-in-Ok-run_world-clause-fit
+returns-in-Ok-run_world-clause-fit g c =
+    elim c.match-tell_run.branch [
+      | in-Ok-tell_run w ↦ rw w.ran-is (λ some. c.in-Ok-run_world.ensures.ran.fit)
+      | in-Err-tell_run w ↦ rw w.ran-is tt
+    ]
+
+pub returns-clause-fit : goal.returns-clause-fit
+returns-clause-fit g c =
+    ok_so c.tell_cause.result
+    (λ r told some. absurd (true≢false (sym (subst (λ (o : Option RunEnd). is_some o ≡ true) told.1 some))))
     c.tell_cause.ensures.answered
 
 pub returns-in-Ok-run_world-clause-stored : goal.returns-in-Ok-run_world-clause-stored
