@@ -534,7 +534,9 @@ def recall_one(folder, events, site, item):
     """A recall, from what its start would do to its end."""
     before = fingerprint(folder)
     would = ask("start", folder, site, item, "--dry-run").split()
-    hold_inside("a dry start", {site: events[site]}, item)
+    reached, missed = steps(relate(events)[0], (site, item)), find_gaps(events)[3]
+    hold_missed("a dry start", reached, missed)
+    hold_inside("a dry start", events, item)
     same("a dry start", fingerprint(folder), before)
     did = ask("start", folder, site, item).split()
     hold_inside("a start", {site: events[site]}, item)
@@ -544,7 +546,6 @@ def recall_one(folder, events, site, item):
     same("a start", (state, quarantined, waiting), (did[6], int(did[3]), int(did[5])))
     if any(it[6] != "untold" for it in messages):
         sys.exit(f"a message is told before a run: {messages}")
-    reached, missed = steps(relate(events)[0], (site, item)), find_gaps(events)[3]
     if state == "open" and missed & set(reached):
         before = fingerprint(folder)
         same("a run that is withheld", ask("run", folder, "--unless-gaps", status=5), "withheld\n")

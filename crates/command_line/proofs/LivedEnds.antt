@@ -57,7 +57,7 @@ module _ {K : Type 0} (shown : K → Option Record) (may : K → Record → Type
     leads_acts (Capture f site file) output calls leads = λ sites old new many continued left. captured shown may opens stored f.now sites old new many calls continued left site.now file.now output leads
     leads_acts (Start f site item false) output calls leads = λ sites old new many continued left. started shown may opens stored f.now sites old new many calls continued left _ site.now item output leads
     leads_acts (Start f site item true) output calls leads =
-        asked_acts calls (asks_behind shown stored f.now _ _ (λ first its asks. after_asks shown stored f.now asks (λ ss rest told. refused_or shown stored f.now told.1 (λ t. site_told shown stored f.now t.3))) output calls leads)
+        asked_acts calls (asks_behind shown stored f.now _ _ (λ first its asks. after_asks shown stored f.now asks (λ ss rest told. refused_or shown stored f.now told.1 (λ t. all_told shown stored f.now t.2))) output calls leads)
     leads_acts (Run f terms) output calls leads = λ sites old new many continued left. has_run shown may opens stored f.now sites old new many calls continued left knows failed terms output leads
     leads_acts (Report f recall ways events) output calls leads = asked_acts calls (after_asks shown stored f.now leads (λ ss rest told. refused_or shown stored f.now told.1 (λ t. all_told shown stored f.now t.2)))
     leads_acts (Audit f coded) output calls leads = asked_acts calls (after_asks shown stored f.now leads (λ ss rest told. refused_or shown stored f.now told.1 (λ t. all_told shown stored f.now t.2)))

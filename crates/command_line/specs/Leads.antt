@@ -87,11 +87,12 @@ module _ {K : Type 0} (shown : K → Option Record) (stored : K → Type 0) (fol
       Plainly
       (AsksAll {Q = ⊤} shown stored folder (λ sites outcome. ⊥) (λ sites asked. ⊤) (λ asked rs outcome. AnswersGaps rs coded outcome))
 
-  -- what the start of a recall of the item would do at the site of a name, and what lies in the item
+  -- what the start of a recall of the item would do at the site of a name, what the recall would miss, and what lies in the item
   abbrev pub DryStarts : List ℕ → Spelled → Output → List (FileCall K) → Type 0
   DryStarts name item output =
-      AsksSite {Q = List ℕ} {A = Outcome × Notes} shown stored folder (λ sites told. RefusesItem name item sites told.0 × (told.1 ≡ Nothing)) (λ sites site key. AsksItem name item sites site key)
-      (λ key r told. AnswersDryStart r key told.0 told.1)
+      AsksAll {Q = ℕ × List ℕ} {A = Outcome × Notes} shown stored folder (λ sites told. RefusesItem name item sites told.0 × (told.1 ≡ Nothing))
+      (λ sites asked. AsksItem name item sites asked.0 asked.1)
+      (λ asked rs told. AnswersDryStart rs asked.0 asked.1 told.0 told.1)
       output.sites (output.outcome, output.notes)
 
   -- which items the site of a name knows whose keys contain the text

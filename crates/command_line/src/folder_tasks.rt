@@ -60,7 +60,7 @@ pub(crate) fn do_command<
         } => {
             let (site, item) = (*site, *item);
             let first = if *dry {
-                with_notes(ask_site(alloc, files, folder, &DryStart { site, item })?)
+                with_notes(ask(alloc, files, folder, &DryStart { site, item })?)
             } else {
                 start(alloc, files, folder, site, &item)?
             };

@@ -1,3 +1,4 @@
+mod BesideLemmas
 mod ContentsLemmas
 mod CoverageLemmas
 mod DryStartLemmas

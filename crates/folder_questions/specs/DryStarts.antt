@@ -14,8 +14,10 @@ use Rattle.site_core.specs.declared.outcomes.Effects.TheVariants.{Started}
 use Rattle.site_core.specs.declared.outcomes.Refusal.{Refusal}
 use Rattle.site_core.specs.declared.steps.Stepped.{Stepped}
 use Rattle.site_core.specs.declared.steps.Stepped.TheVariants.{Same, Next}
-use Rattle.site_folders.specs.Missing.{CountsOwn, NotesInside}
 use Rattle.site_folders.specs.Refusals.{IsRefusal}
+use Rattle.site_recovery.specs.Looks.{world_of}
+use Rattle.folder_questions.specs.Beside.{Beside}
+use Rattle.folder_questions.specs.Gaps.{NotesMissedFrom}
 
 -- how many items a start quarantines, and how many messages it numbers
 abbrev pub TellsStart : Effects → Outcome → Type 0
@@ -34,6 +36,6 @@ AnswersStep r input (WouldStart quarantined messages) =
 AnswersStep r input (Refused whys) = (why : Refusal) × IsRefusedFor r input why × IsRefusal (Step why) (Refused whys)
 AnswersStep r input other = ⊥
 
--- So for the start of a recall of the item; and it is noted how many items lie in that, by the site's own packings.
-abbrev pub AnswersDryStart : Record → List ℕ → Outcome → Notes → Type 0
-AnswersDryStart r item outcome notes = AnswersStep r (Start item) outcome × (n : ℕ) × CountsOwn r item n × NotesInside n notes
+-- So for the start of a recall of the item at the site. It is noted how the records contradict each other, and else what the recall would miss, and what lies in the item.
+abbrev pub AnswersDryStart : List Record → ℕ → List ℕ → Outcome → Notes → Type 0
+AnswersDryStart records site item outcome notes = AnswersStep (world_of records site) (Start item) outcome × Beside records (NotesMissedFrom records site item) notes

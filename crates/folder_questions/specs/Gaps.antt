@@ -13,7 +13,9 @@ use Rattle.recall_outcomes.specs.declared.outcomes.Outcome.{Outcome}
 use Rattle.recall_outcomes.specs.declared.outcomes.Outcome.TheVariants.{Gaps}
 use Rattle.site_core.specs.Records.{Record}
 use Rattle.site_recovery.specs.Laws.{captured_of}
+use Rattle.trace_core.specs.Chains.{Related}
 use Rattle.trace_core.specs.Pairs.{IsStrictlyAscending}
+use Rattle.trace_core.specs.Relations.{Reaches}
 use Rattle.trace_core.specs.Sites.{SiteEvents}
 use Rattle.trace_core.specs.declared.pairs.Pair.{Pair}
 
@@ -45,3 +47,8 @@ NotesMissed records pairs item Nothing = AreMissedOf records pairs [] × CountsI
 NotesMissed records pairs item (Missed found) =
     AreMissedOf records pairs found.pairs.items × CountsInside records item found.inside × ((found.pairs.items ≢ []) ⊎ (found.inside ≢ 0))
 NotesMissed records pairs item other = ⊥
+
+-- Where these are all that the item at the site reaches.
+abbrev pub NotesMissedFrom : List Record → ℕ → List ℕ → Notes → Type 0
+NotesMissedFrom records site item notes =
+    (pairs : List Pair) × ((p : Pair) → Contains pairs p ↔ Reaches (Related (captured_of records)) (record { site = site; item = item }) p) × NotesMissed records pairs item notes

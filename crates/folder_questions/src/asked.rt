@@ -1,6 +1,10 @@
-//! What a question is about: an item at a site, or a recall.
+//! What a question is about: an item at a site, or a recall; and the record of a site that is asked.
 
 ghost use Rattle.std.specs.Prelude.{IfErr, IfOk};
+ghost use Rattle.recall_outcomes.specs.declared.outcomes.CommandRefusal.TheVariants.{Step};
+ghost use Rattle.site_core.specs.declared.outcomes.Refusal.TheVariants.{UnknownItem};
+ghost use Rattle.site_folders.specs.Refusals.{IsRefusal};
+ghost use Rattle.site_recovery.specs.Checking.{Finds, world_at};
 ghost use Rattle.folder_questions.specs.Asked.{AsksItem, AsksRecall, RefusesItem, RefusesRecall};
 
 use epc_core::Epc;
@@ -9,6 +13,7 @@ use frame_core::RecallId;
 use item_spellings::{Spelled, read_item};
 use recall_outcomes::{CommandRefusal, Outcome};
 use recall_text::telling::recall_of;
+use site_core::{Refusal, SiteState};
 use site_folders::{no_site, refusal, unspelled};
 use std::alloc::{AllocError, Global};
 
@@ -48,4 +53,23 @@ pub(crate) fn recall_at(
         return Ok(Err(no_site(alloc, name)?));
     };
     Ok(Ok(RecallId { site, number }))
+}
+
+/// The record of a site, if it is among these.
+pub(crate) fn record_of<'a>(records: &[&'a SiteState], site: SiteNo) -> Option<&'a SiteState>
+    ensures { Finds (world_at records.now) site result }
+{
+    let place = site.number() as usize;
+    if place < records.len() {
+        Some(records[place])
+    } else {
+        None
+    }
+}
+
+/// The site doesn't know the item.
+pub(crate) fn unknown(alloc: Global) -> Result<Outcome, AllocError>
+    ensures { IfOk result (IsRefusal (Step UnknownItem)) }
+{
+    refusal(alloc, CommandRefusal::Step(Refusal::UnknownItem))
 }

@@ -5,15 +5,16 @@ ghost use Rattle.recall_outcomes.specs.declared.notes.Notes.TheVariants.{Nothing
 ghost use Rattle.site_recovery.specs.Checking.{records_at};
 ghost use Rattle.site_recovery.specs.FittingAt.{AreAllSites};
 ghost use Rattle.folder_questions.specs.Beside.{Beside, Contradict};
-ghost use Rattle.folder_questions.specs.Gaps.{NotesMissed};
+ghost use Rattle.folder_questions.specs.Gaps.{NotesMissed, NotesMissedFrom};
 
 use crate::gaps::missed_notes;
 use epc_core::Epc;
+use event_json::SiteNo;
 use recall_outcomes::Notes;
 use site_core::SiteState;
-use site_recovery::{CheckFault, Misfit, check_world};
+use site_recovery::{CheckFault, Misfit, captured, check_world};
 use std::alloc::{AllocError, Global};
-use trace_core::Pair;
+use trace_core::{Pair, reach};
 
 /// What is noted beside pairs that are told of an item: how the records contradict each other, and else those of the
 /// pairs that are missed, and how many items lie in the item.
@@ -31,6 +32,26 @@ pub(crate) fn notes_beside(
         Some(misfit) => Ok(Notes::Misfit(misfit)),
         None => missed_notes(alloc, records, pairs, item),
     }
+}
+
+/// The same beside what is told of an item at a site, by all pairs that it reaches.
+pub(crate) fn notes_from(
+    alloc: Global,
+    records: &[&SiteState],
+    site: SiteNo,
+    item: &Epc,
+) -> Result<Notes, AllocError>
+    requires all { AreAllSites (records_at records.now) }
+    ensures { IfOk result (Beside (records_at records.now)
+        (NotesMissedFrom (records_at records.now) site item.now)) }
+{
+    let root = Pair {
+        site,
+        item: item.copy(alloc)?,
+    };
+    let captured = captured(alloc, records)?;
+    let pairs = reach(alloc, captured.as_slice(), &root)?;
+    notes_beside(alloc, records, pairs.as_slice(), item)
 }
 
 /// What is noted where nothing can be missed: how the records contradict each other.

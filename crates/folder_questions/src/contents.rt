@@ -1,22 +1,19 @@
 //! `items --in`: what lies in an item.
 
 ghost use Rattle.std.specs.Prelude.{IfOk};
-ghost use Rattle.recall_outcomes.specs.declared.outcomes.CommandRefusal.TheVariants.{Step};
-ghost use Rattle.site_core.specs.declared.outcomes.Refusal.TheVariants.{UnknownItem};
-ghost use Rattle.site_folders.specs.Refusals.{IsRefusal};
-ghost use Rattle.site_recovery.specs.Checking.{Finds, records_at, world_at};
+ghost use Rattle.site_recovery.specs.Checking.{records_at};
 ghost use Rattle.site_recovery.specs.FittingAt.{AreAllSites};
 ghost use Rattle.folder_questions.specs.Contents.{AnswersContents};
 
-use crate::asked::item_at;
+use crate::asked::{item_at, record_of, unknown};
 use epc_core::Epc;
 use event_json::{SiteNo, Sites};
 use gap_core::items_inside;
 use item_spellings::Spelled;
 use query_core::counted_items;
-use recall_outcomes::{CommandRefusal, Outcome};
-use site_core::{Refusal, SiteState, is_known};
-use site_folders::{Question, refusal};
+use recall_outcomes::Outcome;
+use site_core::{SiteState, is_known};
+use site_folders::Question;
 use site_recovery::captured;
 use std::alloc::{AllocError, Global};
 
@@ -87,23 +84,4 @@ fn contents_at(
         site,
         items: counted_items(alloc, state, inside, text)?,
     })
-}
-
-/// The record of a site, if it is among these.
-fn record_of<'a>(records: &[&'a SiteState], site: SiteNo) -> Option<&'a SiteState>
-    ensures { Finds (world_at records.now) site result }
-{
-    let place = site.number() as usize;
-    if place < records.len() {
-        Some(records[place])
-    } else {
-        None
-    }
-}
-
-/// The site doesn't know the item.
-fn unknown(alloc: Global) -> Result<Outcome, AllocError>
-    ensures { IfOk result (IsRefusal (Step UnknownItem)) }
-{
-    refusal(alloc, CommandRefusal::Step(Refusal::UnknownItem))
 }

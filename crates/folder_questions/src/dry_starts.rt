@@ -4,42 +4,45 @@ ghost use Rattle.std.specs.Prelude.{◌≡◌, ◌≢◌, IfOk};
 ghost use Rattle.recall_outcomes.specs.declared.outcomes.CommandRefusal.TheVariants.{Step};
 ghost use Rattle.site_core.specs.declared.inputs.SiteInput.TheVariants.{Start};
 ghost use Rattle.site_folders.specs.Refusals.{IsRefusal};
-ghost use Rattle.folder_questions.specs.DryStarts.{AnswersStep, TellsStart, effects_of};
+ghost use Rattle.site_recovery.specs.Checking.{records_at};
+ghost use Rattle.site_recovery.specs.FittingAt.{AreAllSites};
+ghost use Rattle.folder_questions.specs.DryStarts.{AnswersDryStart, AnswersStep, TellsStart, effects_of};
 
-use crate::asked::item_at;
+use crate::asked::{item_at, record_of, unknown};
+use crate::beside::notes_from;
 use epc_core::Epc;
 use event_json::{SiteNo, Sites};
 use item_spellings::Spelled;
 use recall_outcomes::{CommandRefusal, Notes, Outcome};
 use site_core::{Effects, Refusal, SiteInput, SiteState, Stepped, step};
-use site_folders::{SiteQuestion, count_inside, inside_notes, refusal};
+use site_folders::{Question, refusal};
 use std::alloc::{AllocError, Global};
 
 /// How many items of the site of a name the start of a recall would quarantine there, and how many messages it would
-/// have for other sites; and beside that, how many items lie in the one that would be recalled. The step is made on a copy
-/// of the record.
+/// have for other sites; and beside that, what the recall would miss at all sites, and how many items lie in the one that
+/// would be recalled. The step is made on a copy of the record.
 #[derive(Drop)]
 pub struct DryStart<'a> {
     pub site: &'a str,
     pub item: Spelled<'a>,
 }
 
-impl SiteQuestion for DryStart<'_> {
+impl Question for DryStart<'_> {
     ghost use Rattle.folder_questions.specs.Asked.{AsksItem, RefusesItem};
     ghost use Rattle.folder_questions.specs.DryStarts.{AnswersDryStart};
     ghost use Rattle.recall_outcomes.specs.declared.notes.Notes.TheVariants.{Nothing};
 
-    type Asked = Epc;
+    type Asked = (SiteNo, Epc);
 
     type Answer = (Outcome, Notes);
 
     ghost refuses = { λ q sites told. RefusesItem q.site.now q.item sites told.0 × (told.1 ≡ Nothing) };
 
-    ghost asks = { λ q sites site item. AsksItem q.site.now q.item sites site item };
+    ghost asks = { λ q sites asked. AsksItem q.site.now q.item sites asked.0 asked.1 };
 
-    // What the start of a recall of the item would do at the site; and noted beside it how many items lie in that item
-    // by the site's own packings.
-    ghost answers = { λ q item r told. AnswersDryStart r item told.0 told.1 };
+    // What the start of a recall of the item would do at the site; and noted beside it how the records contradict each
+    // other, or, where they don't, just those pairs that the item reaches that are missed, and how many items lie in it.
+    ghost answers = { λ q asked rs told. AnswersDryStart rs asked.0 asked.1 told.0 told.1 };
 
     fn read(
         &self,
@@ -55,13 +58,30 @@ impl SiteQuestion for DryStart<'_> {
     fn answer(
         &self,
         alloc: Global,
-        item: Epc,
-        state: &SiteState,
+        asked: (SiteNo, Epc),
+        records: &[&SiteState],
     ) -> Result<(Outcome, Notes), AllocError> {
-        let inside = count_inside(alloc, state, &item)?;
-        let outcome = would_start(alloc, state, item)?;
-        Ok((outcome, inside_notes(alloc, inside)))
+        let (site, item) = asked;
+        dry_start(alloc, records, site, item)
     }
+}
+
+/// What the start of a recall of an item at a site would do, and what it would miss.
+fn dry_start(
+    alloc: Global,
+    records: &[&SiteState],
+    site: SiteNo,
+    item: Epc,
+) -> Result<(Outcome, Notes), AllocError>
+    requires all { AreAllSites (records_at records.now) }
+    ensures { IfOk result (λ told.
+        AnswersDryStart (records_at records.now) site item told.0 told.1) }
+{
+    let notes = notes_from(alloc, records, site, &item)?;
+    let Some(state) = record_of(records, site) else {
+        return Ok((unknown(alloc)?, notes));
+    };
+    Ok((would_start(alloc, state, item)?, notes))
 }
 
 /// What the start of a recall would do.

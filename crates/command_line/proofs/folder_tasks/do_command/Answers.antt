@@ -22,7 +22,7 @@ use Rattle.folder_questions.specs.Traces.{AnswersTrace}
 use Rattle.command_line.specs.Leads.{TellsContents, Traces}
 use Rattle.command_line.proofs.Behind.{and_who}
 use Rattle.command_line.proofs.Starts.{Firsts, first_led, noted_led, plainly_led, start_led}
-use Rattle.command_line.proofs.folder_tasks.do_command.Goals.{then-dry+in_ok-ask_site-in-Start, else-dry+in_ok-first-in-Start}
+use Rattle.command_line.proofs.folder_tasks.do_command.Goals.{then-dry+in_ok-ask-in-Start, else-dry+in_ok-first-in-Start}
 use Rattle.command_line.proofs.folder_tasks.do_command.Goals as goal
 
 pub returns-in-Run-clause-failed : goal.returns-in-Run-clause-failed
@@ -57,12 +57,12 @@ returns-after-dry-clause-led g c =
     let files = c.args.files.now in
     let first : Led does files c.if-dry.files (Firsts does knows shown failed may stored folder site item dry c.if-dry.first) =
     elim c.if-dry.branch [
-      | then-dry+in_ok-ask_site-in-Start w ↦
-          first_led does knows shown failed may stored folder site item dry true files c.if-dry.files w.ask_site.new.files c.if-dry.first w.with_notes-first.result w.if-dry.true w.files-is w.first-is
+      | then-dry+in_ok-ask-in-Start w ↦
+          first_led does knows shown failed may stored folder site item dry true files c.if-dry.files w.ask.new.files c.if-dry.first w.with_notes-first.result w.if-dry.true w.files-is w.first-is
           (noted_led does
-          (AsksSite {Q = List ℕ} {A = Outcome × Notes} shown stored folder.now (λ sites told. RefusesItem site.now item sites told.0 × (told.1 ≡ Nothing)) (λ sites s key. AsksItem site.now item sites s key)
-          (λ key r told. AnswersDryStart r key told.0 told.1))
-          files w.ask_site.new.files w.in_ok-ask_site-in-Start.field-0 w.with_notes-first.result w.with_notes-first.ensures.sites w.with_notes-first.ensures.outcome w.with_notes-first.ensures.notes w.in_ok-ask_site-in-Start.ensures.answered)
+          (AsksAll {Q = ℕ × List ℕ} {A = Outcome × Notes} shown stored folder.now (λ sites told. RefusesItem site.now item sites told.0 × (told.1 ≡ Nothing)) (λ sites asked. AsksItem site.now item sites asked.0 asked.1)
+          (λ asked rs told. AnswersDryStart rs asked.0 asked.1 told.0 told.1))
+          files w.ask.new.files w.in_ok-ask-in-Start.field-0 w.with_notes-first.result w.with_notes-first.ensures.sites w.with_notes-first.ensures.outcome w.with_notes-first.ensures.notes w.in_ok-ask-in-Start.ensures.answered)
       | else-dry+in_ok-first-in-Start w ↦
           first_led does knows shown failed may stored folder site item dry false files c.if-dry.files w.start.new.files c.if-dry.first w.in_ok-first-in-Start.first w.if-dry.false w.files-is w.first-is w.in_ok-first-in-Start.ensures.calls
     ] in
@@ -75,7 +75,7 @@ returns-in_ok-ask-in-Report-clause-led g c =
     (noted_led g.F.Files.does
     (AsksAll {Q = Recall} {A = Outcome × Notes} g.K.SiteKeeper.shown g.K.SiteKeeper.stored c.in-Report.folder.now (λ sites told. RefusesRecall recall sites told.0 × (told.1 ≡ Nothing)) (λ sites r. AsksRecall recall sites r)
     (λ r rs told. AnswersReport rs r c.in-Report.ways c.in-Report.events told.0 told.1))
-    c.args.files.now c.ask.new.files c.in_ok-ask-in-Report.field-0 c.with_notes.result c.with_notes.ensures.sites c.with_notes.ensures.outcome c.with_notes.ensures.notes c.in_ok-ask-in-Report.ensures.answered)
+    c.args.files.now c.ask-in-Report.new.files c.in_ok-ask-in-Report.field-0 c.with_notes.result c.with_notes.ensures.sites c.with_notes.ensures.outcome c.with_notes.ensures.notes c.in_ok-ask-in-Report.ensures.answered)
 
 pub returns-in_ok-ask-in-Audit-clause-led : goal.returns-in_ok-ask-in-Audit-clause-led
 returns-in_ok-ask-in-Audit-clause-led g c =
@@ -121,7 +121,7 @@ returns-in_ok-ask_site-in-Items-clause-led g c =
     (plainly_led g.F.Files.does
     (AsksSite {Q = ⊤} g.K.SiteKeeper.shown g.K.SiteKeeper.stored c.in-Items.folder.now (λ sites outcome. (named sites name ≡ None) × IsNoSite name outcome) (λ sites site asked. named sites name ≡ Some site)
     (λ asked r outcome. AnswersItems c.in-Items.text.now r outcome))
-    c.args.files.now c.ask_site-in-Items.new.files c.in_ok-ask_site-in-Items.field-0 c.plain.result c.plain.ensures.sites c.plain.ensures.outcome c.plain.ensures.silent
+    c.args.files.now c.ask_site.new.files c.in_ok-ask_site-in-Items.field-0 c.plain.result c.plain.ensures.sites c.plain.ensures.outcome c.plain.ensures.silent
     c.in_ok-ask_site-in-Items.ensures.answered)
 
 pub returns-in_ok-ask-in-Inside-clause-led : goal.returns-in_ok-ask-in-Inside-clause-led

@@ -1,4 +1,4 @@
-use Rattle.std.proofs.Common.{◌∙◌, true, List, length, sym, ap, subst, inl, inr, ⊎_elim}
+use Rattle.std.proofs.Common.{◌∙◌, List, length, sym, ap, subst, inl, inr, ⊎_elim}
 use Rattle.site_folders.specs.Missing.{AreMissedFrom}
 use Rattle.site_recovery.specs.Checking.{records_at}
 use Rattle.trace_core.specs.declared.pairs.Pair.{Pair}

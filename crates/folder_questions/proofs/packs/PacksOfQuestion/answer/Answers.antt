@@ -1,4 +1,4 @@
-use Rattle.std.proofs.Common.{◌≡◌, ◌∙◌, List, Bor, ap, subst}
+use Rattle.std.proofs.Common.{◌≡◌, ◌∙◌, List, ap, subst}
 use Rattle.site_recovery.specs.Checking.{records_at}
 use Rattle.site_recovery.specs.Laws.{captured_of}
 use Rattle.trace_core.specs.Chains.{sites_at}
