@@ -21,8 +21,8 @@ use std::time::Clock;
 /// How many runs are made one after another at most.
 pub(crate) const MOST_ROUNDS: u64 = 500;
 
-/// Runs the sites of these keepers once, or where it is asked for until each recall has ended, or a run of all its turns
-/// has moved nothing: no site dealt with a message in it, and none of a site's was signalled. At most 500 times.
+/// Runs the sites of these keepers once, or where it is asked for until each recall has ended, or a run of all its
+/// turns has moved nothing: no site dealt with a message in it, and none of a site's was signalled. At most 500 times.
 ///
 /// # Errors
 /// As `run_of`, of the last run.
@@ -117,8 +117,8 @@ fn leaves_open(ran: &Ran) -> bool
     }
 }
 
-/// Of each site of keepers that are open, how many messages of other sites it has dealt with, and how many of its own wait
-/// for a signal.
+/// Of each site of keepers that are open, how many messages of other sites it has dealt with, and how many of its own
+/// wait for a signal.
 fn traffic_of<K: SiteKeeper>(alloc: Global, keepers: &[K]) -> Result<Vec<usize>, AllocError>
     requires { (rs : List Record) × AreShown K.shown keepers.now rs }
     ensures { IfOk result (λ traffic. HaveTraffic K.shown keepers.now traffic.items) }

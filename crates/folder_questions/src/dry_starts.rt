@@ -19,8 +19,8 @@ use site_folders::{Question, refusal};
 use std::alloc::{AllocError, Global};
 
 /// How many items of the site of a name the start of a recall would quarantine there, and how many messages it would
-/// have for other sites; and beside that, what the recall would miss at all sites, and how many items lie in the one that
-/// would be recalled. The step is made on a copy of the record.
+/// have for other sites; and beside that, what the recall would miss at all sites, and how many items lie in the one
+/// that would be recalled. The step is made on a copy of the record.
 #[derive(Drop)]
 pub struct DryStart<'a> {
     pub site: &'a str,
@@ -40,8 +40,9 @@ impl Question for DryStart<'_> {
 
     ghost asks = { λ q sites asked. AsksItem q.site.now q.item sites asked.0 asked.1 };
 
-    // What the start of a recall of the item would do at the site; and noted beside it how the records contradict each
-    // other, or, where they don't, just those pairs that the item reaches that are missed, and how many items lie in it.
+    // What the start of a recall of the item would do at the site; and noted beside it how the records contradict
+    // each other, or, where they don't, just those pairs that the item reaches that are missed, and how many items lie
+    // in it.
     ghost answers = { λ q asked rs told. AnswersDryStart rs asked.0 asked.1 told.0 told.1 };
 
     fn read(
