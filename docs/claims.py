@@ -7,9 +7,10 @@
 A claim is the `//` lines directly above a clause of a contract, or above a ghost member of an impl. It stands for that
 clause and for those behind it, up to the next claim; a line `//` alone parts two claims of one clause. Of the clauses above
 the first claim the doc comment's first sentence is said, of a law its first paragraph. Behind `Not covered:` stands what
-the clauses leave open. A function without a claim, whose contract names definitions, is listed by its name.
+the clauses leave open. A clause is named where the claim is, in the source, and a function without a claim isn't listed.
 
-The names of functions and clauses come from the sources, and of a definition it is tested that its file has it.
+Laws are listed by their names, which say what they state, but those of the crates that the theorem is made of: these stand in
+their words.
 """
 import glob
 import os
@@ -22,9 +23,8 @@ FUNCTION = re.compile(r'( *)(pub )?fn (\w+)')
 CLAUSE = re.compile(r' *(?:ensures|requires|ghost) ?(\w*) ?(?:= )?\{')
 REQUIRED = re.compile(r' *requires\b')
 BLOCK = re.compile(r'(?:pub )?(?:trait (\w+)|impl\b(?:<.*?> (?=\w))?(?:.* for )?\s*(\w+))')
-DEFINED = r'(?m)^ *(?:(?:pub|abbrev|unfoldable|opaque|record|data) +)*%s(?=[\s:({])'
-# A definition that more laws than these speak of isn't one that each of them pins.
-MOST_LAWS = 9
+# The crates whose laws are the parts of the theorem.
+THEOREM = ('site_recovery', 'world_core', 'wire_core', 'command_line')
 
 
 def read(path):
@@ -56,8 +56,8 @@ def exports(crate):
 class Function:
     """A function and its contract; or a type, and the ghost members of an impl that have claims."""
 
-    def __init__(self, path, name, owner, doc, contract, body):
-        self.path, self.name, self.owner, self.body = path, name, owner, body
+    def __init__(self, path, name, owner, doc, contract):
+        self.name, self.owner = name, owner
         self.title, self.is_law = '::'.join(word for word in (owner, name) if word), path.endswith('laws.rt')
         self.claims, said = [], []  # each claim: its words, the labels of its clauses, their text, whether it is written there
         for line in contract:
@@ -107,7 +107,7 @@ def functions(path):
                 first -= 1
             while not lines[end - 1].endswith('};'):
                 end += 1
-            yield Function(path, owner, None, '', lines[first:end], '')
+            yield Function(path, owner, None, '', lines[first:end])
         elif match:
             indent = match.group(1)
             clause = re.compile(indent + r'    (?:ensures|requires|//)')
@@ -120,15 +120,12 @@ def functions(path):
                 while depth > 0 and not lines[end - 1].strip().startswith('//'):
                     depth += lines[end].count('{') - lines[end].count('}')
                     end += 1
-            last = end
-            while not lines[end - 1].endswith(';') and not lines[last].startswith((indent + '}', indent + '{}')):
-                last += 1
             while lines[first - 1].strip().startswith(('///', '#[')):
                 first -= 1
             said = any(it.strip().startswith('// ') for it in lines[start:end])
             if match.group(2) or indent and ('trait' in head or said):
                 yield Function(path, match.group(3), owner if indent else None, said_first(lines[first:at], 'laws' in path),
-                               lines[start:end], '\n'.join(lines[at:last]))
+                               lines[start:end])
 
 
 def definitions(path, text):
@@ -142,114 +139,36 @@ def definitions(path, text):
     return {name: file for name, file in cited if found(file)}
 
 
-def statement(file, name):
-    """The text of a definition of specs."""
-    parts = re.split(r'(?m)^(?= *(?:pub |abbrev |unfoldable |opaque |record |data )+[^\s:({]+)', read(file))
-    return next((part for part in parts if re.match(r' *(?:\w+ )+?%s(?!\w)' % re.escape(name), part)), '')
-
-
-def laws(crate):
-    """The laws of a crate, each with what it speaks of: what it cites, and what that names in its own statement."""
-    for path in found(f'crates/{crate}/src/*laws.rt'):
-        for law in functions(path):
-            cited = definitions(path, ''.join(text for _, _, text, _ in law.claims))
-            yield law, set(cited).union(*(re.findall(r'\b[A-Z]\w*', statement(file, name)) for name, file in cited.items()))
-
-
-def edits(crate):
-    """The edits of a crate's mutants, each with the source and a text that it changes."""
-    for path in found(f'crates/{crate}/must-fail/*.edit') + found(f'tests/mutants/{crate}/*.edit'):
-        file = ''
-        for word, rest in re.findall(r'(?m)^(file|old): (.*)$', read(path)):
-            file = rest.strip() if word == 'file' else file
-            if word == 'old':
-                yield path, f'crates/{crate}/{file}', rest
-
-
-def stated(crate, names):
-    """The names of definitions, those of other crates only where none is its own: `Runs`, `world_core.Runs`. Where several
-    files of a crate define a name, its file stands before it, too."""
-    out = []
-    own = {name: file for name, file in names.items() if f'crates/{crate}/specs/' in file}
-    for name, file in (own or names).items():
-        defined = re.compile(DEFINED % re.escape(name))
-        assert defined.search(read(file)), f'{file} defines no {name}'
-        owner, module = file.removeprefix('crates/').removesuffix('.antt').split('/specs/')
-        several = sum(bool(defined.search(read(other))) for other in found(f'crates/{owner}/specs/*.antt')) > 1
-        out.append('.'.join([owner] * (owner != crate) + [module] * several + [name]))
-    return ', '.join(out)
-
-
-def entry(crate, one, claims, pins):
+def entry(one, claims):
     """A function and what it claims: one line, or one for each claim below it."""
-    rows = []
-    for words, labels, _, _, by in claims:
-        *above, last = re.sub(r'Not covered: ((?:(?!<br>).)*)', r'*Not covered: \1*', words).split('<br>')
-        marks = ', '.join(label for label in labels if label != 'ensures' and not one.is_law)
-        by = pins and f' Pins `{pins}`.' if one.is_law else by and not marks and f' By `{stated(crate, by)}`.'
-        rows += [('', text, '') for text in above] + [(marks and f'`{marks}`', last, by or '')]
-    if len(rows) == 1:
-        marks, words, by = rows[0]
-        return [f'- `{one.title}`{marks and f" ({marks})"}: {words}{by}']
-    return [f'- `{one.title}`', *(f'  - {marks and f"{marks}: "}{words}{by}' for marks, words, by in rows)]
-
-
-def mutants(crate):
-    """Each mutant that the check has to refuse, by its folder, with the function that it changes."""
-    folders = {}
-    for path, file, old in edits(crate):
-        folder, name = os.path.split(path.removesuffix('.edit'))
-        title = next((one.title for one in functions(file) if old in one.body), None)
-        known = folders.setdefault(folder, {})
-        known[name] = title or known.get(name)
-    for folder, names in folders.items():
-        titles = {}
-        for name, title in names.items():
-            titles.setdefault(title, []).append(name)
-        of = '; '.join(f'`{", ".join(names)}`{f" of `{title}`" if title else ""}' for title, names in titles.items())
-        yield f'Mutants refused {"in turn" if folder.startswith("tests") else "in each run of CI"}: {of}'
-
-
-def together(titles):
-    """Paths, those of one type or module as in a `use`: `Files::{read, write}`."""
-    owners = {}
-    for title in titles:
-        owner, _, name = title.rpartition('::')
-        owners.setdefault(owner, []).append(name)
-    return ', '.join(f'{owner}::{", ".join(names) if len(names) < 2 else "{" + ", ".join(names) + "}"}' for owner, names in owners.items())
+    lines = [line for words, *_ in claims for line in re.sub(r'Not covered: ((?:(?!<br>).)*)', r'*Not covered: \1*', words).split('<br>')]
+    lines = [line for line in lines if line != 'As its trait says.']
+    if len(lines) == 1:
+        return [f'- `{one.title}`: {lines[0]}']
+    return [f'- `{one.title}`', *(f'  - {line}' for line in lines)]
 
 
 def page(crate):
-    names, pinned = exports(crate), {law.name: of for law, of in laws(crate)}
-    public, plain, own = {}, [], set()  # the claims by file; who has but a doc comment; the crate's definitions that they cite
+    names, public, laws = exports(crate), {}, {}
     for path in found(f'crates/{crate}/src/*.rt'):
         for one in functions(path):
-            claims = [(*claim, definitions(path, claim[2])) for claim in one.claims]
-            claims = [claim for claim in claims if claim[3] or claim[4]]
-            if not claims or not names & {stem(path), one.owner or one.name}:
+            claims = [claim for claim in one.claims if claim[3] or definitions(path, claim[2])]
+            if not names & {stem(path), one.owner or one.name} or not any(claim[3] or one.is_law for claim in claims):
                 continue
-            if one.is_law or any(claim[3] for claim in claims):
-                ones = public.setdefault(path, [])
-                if ones and ones[-1][0].title == one.title:
-                    ones[-1][1].extend(claims)
-                else:
-                    ones.append((one, claims))
+            ones = (laws if one.is_law else public).setdefault(path, [])
+            if ones and ones[-1][0].title == one.title:
+                ones[-1][1].extend(claims)
             else:
-                plain.append(one.title if one.owner else f'{stem(path)}::{one.title}')
-            if not one.is_law:
-                own |= {name for claim in claims for name, file in claim[4].items() if f'crates/{crate}/specs/' in file}
-    if not public and not plain:
+                ones.append((one, claims))
+    if not public and not laws:
         return None
-    own = {name for name in own if sum(name in of for of in pinned.values()) <= MOST_LAWS}
-    out = [f'# Claims of [`{crate}`](../../crates/{crate})', '', '[How to read them](../PROOFS.md)', '']
-    for path in sorted(public, key=lambda path: (path.endswith('laws.rt'), path)):
-        out += [f'## {stem(path)}']
-        for one, claims in public[path]:
-            out += entry(crate, one, claims, ', '.join(sorted(own & pinned[one.name])) if one.is_law else '')
-        out += ['']
-    out += [f'Claimed by doc comments: `{together(plain)}`', ''] if plain else []
-    for line in mutants(crate):
-        out += [line, '']
+    out = [f'# `{crate}`: [claims](../PROOFS.md#how-to-read-the-claims)', '']
+    for path, ones in [*public.items(), *laws.items()]:
+        if path in laws and crate not in THEOREM:
+            title = stem(path).capitalize().replace('_', ' ')
+            out += [f'[{title}](../../{path}): `{", ".join(one.title for one, _ in ones)}`', '']
+        else:
+            out += [f'## {stem(path)}', *(line for one, claims in ones for line in entry(one, claims)), '']
     return '\n'.join(out)
 
 
