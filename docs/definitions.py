@@ -1,5 +1,5 @@
 #!/usr/bin/env python3
-"""Makes docs/DEFINITIONS.md from the sources: what the theorem stands on, a line for each file, in reading order.
+"""Makes docs/DEFINITIONS.md from the sources: the files that define what the theorem stands on, in reading order.
 
     python3 docs/definitions.py            writes it
     python3 docs/definitions.py --check    says whether it isn't what the sources say any more
@@ -15,9 +15,9 @@ ROOT = os.path.join(os.path.dirname(os.path.abspath(__file__)), '..')
 STATEMENT = 'world_core.specs.Laws.ComesOut'
 HEAD = """# The definitions of the headline
 
-What [the theorem](THEOREM.md#the-theorem) stands on: {count}. A contract says what a function does by such definitions: these have to be believed, all else is proved against them. Comments above them say how they are read. They are written in antt: a function by cases on a value, or a relation as a type (`A × B` is "and", `⊎` is "or", `(x : A) × P` is "some x with P"). A text is the list of its bytes. Words of the kit's library, such as `All`, `Contains`, `lines`, are in its guide `CONTRACT_STYLE.md`.
+What [the theorem](THEOREM.md#the-theorem) stands on: {count}. A contract says what a function does by such definitions: these have to be believed, all else is proved against them. `tests/statement.sh --text {statement}` prints them whole, in the reading order of the files below; comments above them say how they are read.
 
-The files come in reading order, and so do the names of each. `tests/statement.sh --text {statement}` prints the definitions whole. This page is made by [`definitions.py`](definitions.py).
+They are written in antt: a function by cases on a value, or a relation as a type (`A × B` is "and", `⊎` is "or", `(x : A) × P` is "some x with P"). A text is the list of its bytes. Words of the kit's library, such as `All`, `Contains`, `lines`, are in its guide `CONTRACT_STYLE.md`. [`definitions.py`](definitions.py) makes this page.
 
 """
 
@@ -29,18 +29,16 @@ def read(path):
 
 def text():
     out = subprocess.run(['tests/statement.sh', STATEMENT], cwd=ROOT, check=True, capture_output=True, text=True).stdout
-    files = {}
     *rows, last = out.strip().split('\n')
-    for row in rows:
-        place, *name, _ = row.split(' ')
-        path = place.split(':')[0]
-        if path.endswith('.antt'):
-            files.setdefault(path, []).append(' '.join(name))
-    lines = [HEAD.format(count=last.split(': ', 1)[1], statement=STATEMENT)]
-    for path, names in files.items():
-        title = path.removeprefix('crates/').replace('/specs/', ', ').removesuffix('.antt')
-        lines.append(f'- [{title}](../{path}): `{", ".join(names)}`\n')
-    return ''.join(lines)
+    files = dict.fromkeys(path for path in (row.split(':')[0] for row in rows) if path.endswith('.antt'))
+    crates = []  # each crate with the files of it that come next
+    for path in files:
+        crate, file = path.removeprefix('crates/').removesuffix('.antt').split('/specs/')
+        if not crates or crates[-1][0] != crate:
+            crates.append((crate, []))
+        crates[-1][1].append(f'[{file}](../{path})')
+    lines = [f'- `{crate}`: {", ".join(names)}\n' for crate, names in crates]
+    return HEAD.format(count=last.split(': ', 1)[1], statement=STATEMENT) + ''.join(lines)
 
 
 def main():
