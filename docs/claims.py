@@ -9,8 +9,7 @@ clause and for those behind it, up to the next claim; a line `//` alone parts tw
 the first claim the doc comment's first sentence is said, of a law its first paragraph. Behind `Not covered:` stands what
 the clauses leave open. A clause is named where the claim is, in the source, and a function without a claim isn't listed.
 
-Laws are listed by their names, which say what they state, but those of the crates that the theorem is made of: these stand in
-their words.
+Laws are listed by their names, which say in short what they state; those of the crates in IN_WORDS stand in their words.
 """
 import glob
 import os
@@ -23,8 +22,8 @@ FUNCTION = re.compile(r'( *)(pub )?fn (\w+)')
 CLAUSE = re.compile(r' *(?:ensures|requires|ghost) ?(\w*) ?(?:= )?\{')
 REQUIRED = re.compile(r' *requires\b')
 BLOCK = re.compile(r'(?:pub )?(?:trait (\w+)|impl\b(?:<.*?> (?=\w))?(?:.* for )?\s*(\w+))')
-# The crates whose laws are the parts of the theorem.
-THEOREM = ('site_recovery', 'world_core', 'wire_core', 'command_line')
+# The crates whose laws make up the theorem.
+IN_WORDS = ('site_recovery', 'world_core', 'wire_core', 'command_line')
 
 
 def read(path):
@@ -164,7 +163,7 @@ def page(crate):
         return None
     out = [f'# `{crate}`: [claims](../PROOFS.md#how-to-read-the-claims)', '']
     for path, ones in [*public.items(), *laws.items()]:
-        if path in laws and crate not in THEOREM:
+        if path in laws and crate not in IN_WORDS:
             title = stem(path).capitalize().replace('_', ' ')
             out += [f'[{title}](../../{path}): `{", ".join(one.title for one, _ in ones)}`', '']
         else:
