@@ -8,7 +8,9 @@ pub mod KnownSteps
 pub mod LeastSources
 pub mod LineSteps
 pub mod MissedReach
+pub mod MissedStepLists
 pub mod MissedSteps
+pub mod MissesLists
 pub mod Notings
 pub mod PackClosing
 pub mod PackSteps
@@ -19,5 +21,7 @@ pub mod SourceLists
 pub mod TellingSteps
 pub mod Turns
 pub mod UnseenSteps
+pub mod UntoldSteps
 pub mod UsedSteps
 pub mod WalkSteps
+pub mod WideSearch

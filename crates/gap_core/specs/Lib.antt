@@ -7,10 +7,14 @@ pub mod Inside
 pub mod Laws
 pub mod Lines
 pub mod Missed
+pub mod MissedSteps
+pub mod Misses
 pub mod PackLaws
 pub mod Packers
 pub mod Searches
 pub mod Shipments
 pub mod Sources
 pub mod Unseen
+pub mod Untold
 pub mod Used
+pub mod WideReach

@@ -27,7 +27,7 @@ pub fn batches_of(alloc: Global, site: &Captured) -> Result<Vec<Places>, AllocEr
 }
 
 /// Reads the sites to which a site ships, which shows that their numbers are below 16.
-fn read_sites(site: &Captured)
+pub fn read_sites(site: &Captured)
     ensures { (k t : ℕ) → GoesAt site.now.events (inl t) k → t < 16 }
 {
     for place in 0..site.len() {
@@ -103,7 +103,7 @@ fn note_site(
 }
 
 /// Whether it is the site's own number.
-fn is_own(site: &Captured, to: SiteNo) -> bool
+pub fn is_own(site: &Captured, to: SiteNo) -> bool
     ensures { IsTrue result ↔ (to ≡ site.now.me) }
 {
     to == site.me()

@@ -81,7 +81,7 @@ fn note_batch(
 }
 
 /// Notes those of some items that aren't told.
-fn note_all(
+pub fn note_all(
     alloc: Global,
     sites: &[&Captured],
     at: usize,

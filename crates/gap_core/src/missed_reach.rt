@@ -36,7 +36,7 @@ pub fn missed_among(
 }
 
 /// Pairs as a set.
-fn set_of(alloc: Global, pairs: Vec<Pair>) -> Result<BTreeSet<Pair>, AllocError>
+pub fn set_of(alloc: Global, pairs: Vec<Pair>) -> Result<BTreeSet<Pair>, AllocError>
     ensures { IfOk result (λ set. (p : Pair) → IsFound pair_cmp set p ↔ Contains pairs.items p) }
 {
     let mut set = BTreeSet::new(alloc);

@@ -36,6 +36,22 @@ impl Destination {
     {
         Destination { text }
     }
+
+    /// The text that names it.
+    pub fn as_str(&self) -> &str
+        ensures { result.now ≡ self.now }
+    {
+        self.text.as_str()
+    }
+
+    /// An equal place.
+    pub fn copy(&self, alloc: Global) -> Result<Destination, AllocError>
+        ensures { IfOk result (λ d. d ≡ self.now) }
+    {
+        Ok(Destination {
+            text: self.text.copy(alloc)?,
+        })
+    }
 }
 
 impl PartialEq for Destination {
