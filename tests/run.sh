@@ -91,6 +91,20 @@ cp -r started rounds
 wants 0 's0#1 ended' '' run rounds --turns 200 --until-ended
 wants 0 "equal s0#1 pairs $sites" '' audit rounds
 
+# So many messages take several runs of so few turns: one run leaves recalls open, and those of --until-ended don't.
+echo "runs until 700 recalls have ended"
+mkdir many
+wants 0 '' '' init many list
+for ((n = 0; n < 700; n++)); do printf 'crate-%d\n' "$n"; done >crates
+items=$(sed 's/.*/"&"/' crates | paste -s -d ,)
+printf '{"type":"ObjectEvent","eventID":"urn:uuid:7a","eventTime":"2024-05-01T08:00:00Z","eventTimeZoneOffset":"+00:00","action":"OBSERVE","epcList":[%s],"destinationList":[{"type":"location","destination":"a1"}]}' "$items" >document.json
+wants 0 'captured 1 known 0 skipped 0' '' capture many s0 document.json
+"$recall" start many s0 --from crates >out 2>err || complain "recall start many: $(cat err)"
+"$recall" run many --turns 300 --exit-code >out 2>err
+[ $? = 5 ] || complain "one run of 300 turns ends 700 recalls"
+"$recall" run many --turns 300 --until-ended --exit-code >out 2>err || complain "recall run many --until-ended: $(tail -n 1 out; cat err)"
+[ "$(grep -c ' ended$' out)" = 700 ] || complain "recall run many --until-ended: $(grep -c ' ended$' out) recalls have ended"
+
 # A file may have 1,024 bytes: what a step writes to its log is more, so nothing can be kept.
 echo "a run whose files may not grow"
 rm -rf full && cp -r started full

@@ -32,7 +32,6 @@ use Rattle.trace_core.specs.declared.pairs.Pair.{Pair}
 use Rattle.folder_commands.specs.Missing.{AreMissed}
 use Rattle.folder_commands.specs.Notes.{EndsSo, NotesEnd}
 use Rattle.folder_commands.specs.declared.notes.RunEnd.{RunEnd}
-use Rattle.folder_commands.specs.declared.rounds.TheConstants.{MOST_ROUNDS}
 use Rattle.folder_commands.specs.declared.runs.RunTerms.{RunTerms}
 
 -- the keepers show records that stand together, and these are the recalls that sites have begun in them, in order
@@ -148,7 +147,7 @@ module _ {K : Type 0} (shown : K → Option Record) (failed : K → ℕ) (may : 
 
   -- no other one follows, since there were as many as there are at most, or for one of these two reasons
   abbrev pub IsOver : ℕ → List K → List K → Option RunEnd → Type 0
-  IsOver rounds old new end = HasRested shown old new end ⊎ (rounds ≡ MOST_ROUNDS)
+  IsOver rounds old new end = HasRested shown old new end ⊎ (rounds ≡ 500)
 
   -- after such runs, none where it isn't asked for, the last one has this outcome
   pub record AnswersRounds (old new : List K) (outcome : Outcome) (end : Option RunEnd) : Type 0 where
