@@ -142,6 +142,8 @@ tells 0 "{\"audit\":\"equal\",\"pairs\":$pairs,\"recall\":\"plant#1\"}" '' audit
 tells 1 '{"refused":"UnknownRecall"}' '' report made 'plant#9'
 tells 1 '{"refused":"BadLine"}' '' report made plant
 tells 5 '{"items":0,"packed":[],"unseen":[{"from":"plant","item":"sscc 095213210000000421","site":"shop-1"}],"used":[]}' '' gaps made --exit-code
+tells 0 '{"left":[],"missed":[],"recall":"plant#1"}' '' gaps made 'plant#1' --exit-code
+tells 1 '{"refused":"UnknownRecall"}' '' gaps made 'plant#9'
 
 echo "a report says the same in both forms"
 "$recall" report made 'plant#1' >words || complain "a report"

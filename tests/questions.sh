@@ -10,6 +10,7 @@
 # - items, of each site: which there are, how often they are named, and those that contain a text; and what lies in each;
 # - coverage: how many events and items each site has, and when the first and the last of its events happened;
 # - status and audit while a recall is open and once it has ended, with --exit-code; a report beside a trace of its root;
+# - gaps of a recall that has ended: what it misses, and which recall holds that;
 # - what a run says that open recalls miss, and that it is withheld for that with --unless-gaps; and what an audit says that recalls miss;
 # - start --dry-run, which tells what the start then does. No question changes a byte of a file.
 # Run by hand, and by the gate on the program that it built. RECALL names another program. CHAINS is how many chains are made, 6
@@ -45,7 +46,7 @@ SITES = ["north", "east-1", "south_2"]
 answers = 0
 beside = ""
 asked = collections.Counter()
-begun = collections.defaultdict(list)
+begun, named = collections.defaultdict(list), collections.defaultdict(list)
 
 
 def ask(*words, status=0):
@@ -244,6 +245,29 @@ def packs(folder, events):
     same(f"gaps {copy}", ask("gaps", copy).splitlines()[-1].split(" used ")[0], "total packed 0 items 0")
     _, ways, _ = read_trace(ask("trace", copy, *root, "--brief"))
     same(f"trace {copy}", {way[0] for way in ways}, set(steps(relate(events, knowing(events))[0], root)))
+
+
+def misses(folder, events, recall, root):
+    """What a recall misses: the pairs that its root reaches by all that is known of packings and not by the sites' own ones, each with
+    a recall that holds it; and what so left the traced sites, and no report of a recall tells."""
+    (related, out), (further, far) = relate(events), relate(events, knowing(events))
+    near, wide = set(steps(related, root)), set(steps(further, root))
+    place = lambda it: (SITES.index(it[0]), key(it[1]), *it[2:])
+    order = lambda name: (SITES.index(name.split("#")[0]), int(name.split("#")[1]))
+    held = {pair: min((name for name, begin in named[folder] if pair in set(steps(related, begin))), key=order, default=None) for pair in wide - near}
+    told = near.union(*(steps(related, begin) for _, begin in named[folder]))
+    left = [it for it in sorted(far, key=place) if it[:2] in wide and not (it in out and it[:2] in told)]
+    lines = [f"gap missed {s} {key(i)}" + (f" held by {held[s, i]}" if held[s, i] else "") for s, i in sorted(held, key=place)]
+    lines += [f"gap left {s} {key(i)} at:{to}" for s, i, to in left]
+    lines += [f"total missed {len(held)} held {sum(map(bool, held.values()))} left {len(left)}"]
+    same(f"gaps {folder} {recall}", ask("gaps", folder, recall).splitlines(), lines)
+    wanted = {
+        "left": [{"destination": f"at:{to}", "item": key(i), "site": s} for s, i, to in left],
+        "missed": [{"held_by": held[s, i], "item": key(i), "site": s} for s, i in sorted(held, key=place)],
+        "recall": recall,
+    }
+    status = 5 if left or None in held.values() else 0
+    same(f"gaps {folder} {recall} --json", json.loads(ask("gaps", folder, recall, "--json", "--exit-code", status=status)), wanted)
 
 
 def hold_missed(what, pairs, missed):
@@ -567,6 +591,9 @@ def recall_one(folder, events, site, item):
     same("the end", hold_detail(folder, recall)[0::2], ("ended", 0))
     ask("run", folder, "--exit-code")
     begun[folder].append((site, item))
+    named[folder].append((recall, (site, item)))
+    for name, root in named[folder]:
+        misses(folder, events, name, root)
     ask("audit", folder)
     hold_missed("an audit", set().union(*(steps(relate(events)[0], root) for root in begun[folder])), missed)
     report = ask("report", folder, recall).splitlines()
@@ -606,6 +633,7 @@ for number in range(int(os.environ["CHAINS"])):
         list_items(folder, events, held)
     same("an unknown recall", ask("status", folder, "north#9", status=1), "refused UnknownRecall\n")
     same("no recall", ask("status", folder, "north", status=1), "refused BadLine\n")
+    same("gaps of an unknown recall", ask("gaps", folder, "north#9", status=1), "refused UnknownRecall\n")
     same("a site that isn't listed", ask("status", folder, "west#1", status=1), "refused NoSite west\n")
 print(f"{answers} answers are as they should be: {', '.join(f'{count} {name}' for name, count in sorted(asked.items()))}")
 PYTHON

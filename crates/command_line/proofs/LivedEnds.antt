@@ -27,7 +27,7 @@ use Rattle.command_line.specs.Packs.{Finds}
 use Rattle.command_line.specs.Lives.{AreActsOfSites, LeadByActs}
 use Rattle.command_line.specs.declared.asked.Batch.{Batch}
 use Rattle.command_line.specs.declared.asked.FileCommand.{FileCommand}
-use Rattle.command_line.specs.declared.asked.FileCommand.TheVariants.{Init, Copy, Capture, Start, Run, Report, Audit, Trace, Recalls, Recall as OneRecall, Items, Inside, Coverage, Gaps}
+use Rattle.command_line.specs.declared.asked.FileCommand.TheVariants.{Init, Copy, Capture, Start, Run, Report, Audit, Trace, Recalls, Recall as OneRecall, Items, Inside, Coverage, Gaps, Missed}
 use Rattle.command_line.specs.declared.convert_commands.ConvertFiles.{ConvertFiles}
 use Rattle.command_line.specs.declared.lint_commands.LintFiles.{LintFiles}
 use Rattle.command_line.specs.declared.pack_commands.PackFiles.{PackFiles}
@@ -70,6 +70,7 @@ module _ {K : Type 0} (shown : K → Option Record) (may : K → Record → Type
         asked_acts calls (asks_behind shown stored f.now _ _ (λ first its asks. after_asks shown stored f.now asks.0 (λ ss rest told. refused_or shown stored f.now told.1 (λ t. all_told shown stored f.now t.2))) output calls leads)
     leads_acts (Coverage f) output calls leads = asked_acts calls (after_asks shown stored f.now leads.0 (λ ss rest told. refused_or shown stored f.now told.1 (λ t. all_told shown stored f.now t.2)))
     leads_acts (Gaps f coded) output calls leads = asked_acts calls (after_asks shown stored f.now leads.0 (λ ss rest told. refused_or shown stored f.now told.1 (λ t. all_told shown stored f.now t.2)))
+    leads_acts (Missed f recall coded) output calls leads = asked_acts calls (after_asks shown stored f.now leads.0 (λ ss rest told. refused_or shown stored f.now told.1 (λ t. all_told shown stored f.now t.2)))
 
     fails_acts : (command : FileCommand) (fault : Fault) (calls : List (FileCall K)) → FailsBy shown failed may reopens gives_up stored command fault calls → AreActsOfSites shown may calls
     fails_acts (Init f list) fault calls (inl vain) = asked_acts calls vain.harmless
@@ -89,6 +90,7 @@ module _ {K : Type 0} (shown : K → Option Record) (may : K → Record → Type
     fails_acts (Inside f site item text) fault calls fails = asked_acts calls fails.harmless
     fails_acts (Coverage f) fault calls fails = asked_acts calls fails.harmless
     fails_acts (Gaps f coded) fault calls fails = asked_acts calls fails.harmless
+    fails_acts (Missed f recall coded) fault calls fails = asked_acts calls fails.harmless
 
   -- documents that are looked through
   lints_ask : {S : Type 0} (takes : S → List ℕ → Lint → S → Type 0) (list : List ℕ) (site : Option (List ℕ)) (paths : List (List ℕ)) (heard hears : S) (output : LintOutput) (calls : List (FileCall K)) → Lints takes list site paths heard hears output calls → OnlyAsks calls

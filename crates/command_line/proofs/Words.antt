@@ -22,7 +22,7 @@ use Rattle.command_line.specs.declared.asked.FileCommand.{FileCommand}
 use Rattle.command_line.specs.declared.convert_commands.ConvertFiles.{ConvertFiles}
 use Rattle.command_line.specs.declared.lint_commands.LintFiles.{LintFiles}
 use Rattle.command_line.specs.declared.pack_commands.PackFiles.{PackFiles}
-use Rattle.command_line.specs.declared.asked.FileCommand.TheVariants.{Init, Copy, Capture, Start, Run, Report, Audit, Trace, Recalls, Recall, Items, Inside, Coverage, Gaps}
+use Rattle.command_line.specs.declared.asked.FileCommand.TheVariants.{Init, Copy, Capture, Start, Run, Report, Audit, Trace, Recalls, Recall, Items, Inside, Coverage, Gaps, Missed}
 use Rattle.command_line.specs.CommandLines.{recall, faults_of, named, AsksBatch, AsksDryBatch, AsksFiles, AsksHelp, AsksLinesAndEvents, AsksLint, AsksNamed, AsksOf, AsksPacks, AsksTwo, AsksTwoForms, Contradicts, GivesDocuments, GivesEpcs, GivesFiles, GivesSpelling, GivesWords, IsBad, IsBatch, IsCapture, IsCommand, IsContradiction, IsLintCommand, IsMistake, IsPacksCommand, IsSet, IsShown, IsStart, AsksFor, IsToldAs, IsUnset, epcs_kind, has_many, words_of, AsksConvert, IsConvertCommand}
 use mathlib.Core.Logic.{◌⊎◌}
 
@@ -56,6 +56,7 @@ sim_is_no_command (Audit folder coded) rows is = let bad = is.0 in cc
 sim_is_no_command (Inside folder site item text) rows is = let bad = is.0 in cc
 sim_is_no_command (Coverage folder) rows is = let bad = is.0 in cc
 sim_is_no_command (Gaps folder coded) rows is = let bad = is.0 in cc
+sim_is_no_command (Missed folder recall coded) rows is = let bad = is.0 in cc
 sim_is_no_command (Trace folder site item back ways events) rows is = let bad = is.0 in cc
 sim_is_no_command (Recalls folder coded) rows is = let bad = is.0 in cc
 sim_is_no_command (Recall folder recall coded) rows is = let bad = is.0 in cc

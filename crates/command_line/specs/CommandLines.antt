@@ -26,7 +26,7 @@ use Rattle.command_line.specs.declared.asked.Terms.{Terms}
 use Rattle.command_line.specs.declared.convert_commands.ConvertFiles.{ConvertFiles}
 use Rattle.command_line.specs.declared.lint_commands.LintFiles.{LintFiles}
 use Rattle.command_line.specs.declared.pack_commands.PackFiles.{PackFiles}
-use Rattle.command_line.specs.declared.asked.FileCommand.TheVariants.{Init, Copy, Capture, Start, Run, Report, Audit, Trace, Recalls, Recall, Items, Inside, Coverage, Gaps}
+use Rattle.command_line.specs.declared.asked.FileCommand.TheVariants.{Init, Copy, Capture, Start, Run, Report, Audit, Trace, Recalls, Recall, Items, Inside, Coverage, Gaps, Missed}
 
 -- the words of a batch
 abbrev pub words_of : Batch → List (List ℕ)
@@ -158,7 +158,7 @@ abbrev pub coverage : App
 coverage = on_folder (codes "coverage")
 
 abbrev pub gaps : App
-gaps = with_rule (on_folder (codes "gaps")) (flag (codes "exit-code"))
+gaps = with_rule (with_rule (on_folder (codes "gaps")) (new_rule (codes "recall"))) (flag (codes "exit-code"))
 
 -- to a folder that is there
 abbrev pub copy : App
@@ -350,7 +350,10 @@ IsCommand (Inside folder site item text) name rows =
     (name ≡ codes "items") × Gives rows (codes "dir") folder.now × Gives rows (codes "site") site.now × GivesOrNone rows (codes "text") text.now
     × Gives rows (codes "in") item.text.now × GivesSpelling rows item.spelling
 IsCommand (Coverage folder) name rows = (name ≡ codes "coverage") × Gives rows (codes "dir") folder.now
-IsCommand (Gaps folder coded) name rows = (name ≡ codes "gaps") × Gives rows (codes "dir") folder.now × (IsTrue coded ↔ IsSet rows (codes "exit-code"))
+IsCommand (Gaps folder coded) name rows =
+    (name ≡ codes "gaps") × Gives rows (codes "dir") folder.now × (first_of (codes "recall") rows ≡ None) × (IsTrue coded ↔ IsSet rows (codes "exit-code"))
+IsCommand (Missed folder recall coded) name rows =
+    (name ≡ codes "gaps") × Gives rows (codes "dir") folder.now × Gives rows (codes "recall") recall.now × (IsTrue coded ↔ IsSet rows (codes "exit-code"))
 
 -- documents are captured, or recalls started that aren't dry
 abbrev pub GivesWords : Text → List Row → WordKind → List Text → Type 0

@@ -22,6 +22,7 @@ use Rattle.folder_questions.specs.Contents.{AnswersContents}
 use Rattle.folder_questions.specs.Coverage.{AnswersCoverage}
 use Rattle.folder_questions.specs.DryStarts.{AnswersDryStart}
 use Rattle.folder_questions.specs.Gaps.{AnswersGaps}
+use Rattle.folder_questions.specs.Missed.{AnswersMissed}
 use Rattle.folder_questions.specs.Reports.{AnswersReport}
 use Rattle.folder_questions.specs.SiteItems.{AnswersItems}
 use Rattle.folder_questions.specs.Standings.{AnswersRecall, AnswersRecalls}
@@ -32,7 +33,7 @@ use Rattle.folder_commands.specs.Runs.{RunFails, RunsAt}
 use Rattle.folder_commands.specs.Steps.{CaptureFails, CapturesAt, StartFails, StartsAt}
 use Rattle.command_line.specs.UnknownItems.{AndWho}
 use Rattle.command_line.specs.declared.asked.FileCommand.{FileCommand}
-use Rattle.command_line.specs.declared.asked.FileCommand.TheVariants.{Init, Copy, Capture, Start, Run, Report, Audit, Trace, Recalls, Recall as OneRecall, Items, Inside, Coverage, Gaps}
+use Rattle.command_line.specs.declared.asked.FileCommand.TheVariants.{Init, Copy, Capture, Start, Run, Report, Audit, Trace, Recalls, Recall as OneRecall, Items, Inside, Coverage, Gaps, Missed}
 
 -- an outcome beside which nothing is noted
 abbrev pub Plainly : {K : Type 0} → (List Site → Outcome → List (FileCall K) → Type 0) → Output → List (FileCall K) → Type 0
@@ -87,6 +88,13 @@ module _ {K : Type 0} (shown : K → Option Record) (stored : K → Type 0) (fol
       Plainly
       (AsksAll {Q = ⊤} shown stored folder (λ sites outcome. ⊥) (λ sites asked. ⊤) (λ asked rs outcome. AnswersGaps rs coded outcome))
 
+  -- what the recall of a text misses
+  abbrev pub FindsMissed : List ℕ → Bool → Output → List (FileCall K) → Type 0
+  FindsMissed recall coded =
+      Plainly
+      (AsksAll {Q = Recall} shown stored folder (λ sites outcome. RefusesRecall recall sites outcome) (λ sites r. AsksRecall recall sites r)
+      (λ r rs outcome. AnswersMissed rs r coded outcome))
+
   -- what the start of a recall of the item would do at the site of a name, what the recall would miss, and what lies in the item
   abbrev pub DryStarts : List ℕ → Spelled → Output → List (FileCall K) → Type 0
   DryStarts name item output =
@@ -134,6 +142,7 @@ module _ {K : Type 0} (knows : List ℕ → List ℕ → Type 0) (shown : K → 
       AndWho shown stored folder.now (record { site = site; item = item }) (TellsContents shown stored folder.now site.now item text.now) output calls
   LeadsTo (Coverage folder) output calls = TellsCoverage shown stored folder.now output calls
   LeadsTo (Gaps folder coded) output calls = FindsGaps shown stored folder.now coded output calls
+  LeadsTo (Missed folder recall coded) output calls = FindsMissed shown stored folder.now recall.now coded output calls
 
 module _ {K G : Type 0} (shown : K → Option Record) (failed : K → ℕ) (may : K → Record → Type 0) (reopens : K → Result K (Unopened K) → Type 0) (gives_up : G → ℕ → ℕ → Type 0) (stored : K → Type 0) where
   -- the calls of the command, which lead to this fault: a question changed nothing
@@ -153,3 +162,4 @@ module _ {K G : Type 0} (shown : K → Option Record) (failed : K → ℕ) (may 
   FailsBy (Inside folder site item text) fault calls = EndsInVain shown folder.now fault calls
   FailsBy (Coverage folder) fault calls = EndsInVain shown folder.now fault calls
   FailsBy (Gaps folder coded) fault calls = EndsInVain shown folder.now fault calls
+  FailsBy (Missed folder recall coded) fault calls = EndsInVain shown folder.now fault calls

@@ -139,4 +139,10 @@ pub(crate) enum FileCommand<'a> {
         folder: &'a str,
         coded: bool,
     },
+    /// It is asked what a recall misses, and perhaps for a status that tells that something of it isn't quarantined.
+    Missed {
+        folder: &'a str,
+        recall: &'a str,
+        coded: bool,
+    },
 }

@@ -293,8 +293,7 @@ fn file_command<'a>(name: &str, given: &ArgMatches<'a>) -> Option<FileCommand<'a
     } else if name == "coverage" {
         Some(FileCommand::Coverage { folder })
     } else if name == "gaps" {
-        let coded = is_set(given, "exit-code");
-        Some(FileCommand::Gaps { folder, coded })
+        Some(gaps_command(folder, given))
     } else if name == "status" {
         Some(status_command(folder, given))
     } else {
@@ -407,6 +406,22 @@ fn status_command<'a>(folder: &'a str, given: &ArgMatches<'a>) -> FileCommand<'a
             coded,
         },
         None => FileCommand::Recalls { folder, coded },
+    }
+}
+
+/// The command that asks for gaps, or for what the recall misses that is named.
+fn gaps_command<'a>(folder: &'a str, given: &ArgMatches<'a>) -> FileCommand<'a>
+    requires { Gives (rows_of (found_of given.now)) (codes "dir") folder.now }
+    ensures { IsCommand result (codes "gaps") (rows_of (found_of given.now)) }
+{
+    let coded = is_set(given, "exit-code");
+    match given.get_str("recall") {
+        Some(recall) => FileCommand::Missed {
+            folder,
+            recall,
+            coded,
+        },
+        None => FileCommand::Gaps { folder, coded },
     }
 }
 

@@ -12,8 +12,8 @@ use crate::asked::FileCommand;
 use event_json::Sites;
 use folder_commands::{capture, copy, init, run_sites, start};
 use folder_questions::{
-    Audit, ContentsOf, CoverageOf, DryStart, GapsOf, ItemsOf, KnowersOf, ReportOf, StatusOf,
-    Statuses, TraceOf,
+    Audit, ContentsOf, CoverageOf, DryStart, GapsOf, ItemsOf, KnowersOf, MissedOf, ReportOf,
+    StatusOf, Statuses, TraceOf,
 };
 use item_spellings::Spelled;
 use keeper_core::SiteKeeper;
@@ -136,6 +136,17 @@ pub(crate) fn do_command<
         }
         FileCommand::Gaps { folder, coded } => {
             let question = GapsOf { coded: *coded };
+            Ok(plain(ask(alloc, files, folder, &question)?))
+        }
+        FileCommand::Missed {
+            folder,
+            recall,
+            coded,
+        } => {
+            let question = MissedOf {
+                recall,
+                coded: *coded,
+            };
             Ok(plain(ask(alloc, files, folder, &question)?))
         }
     }

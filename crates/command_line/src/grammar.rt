@@ -180,11 +180,17 @@ fn status<'a>(alloc: Global) -> Result<Command<'a>, AllocError>
 fn gaps<'a>(alloc: Global) -> Result<Command<'a>, AllocError>
     ensures { IfOk result (λ command. app_of command ≡ gaps) }
 {
-    on_folder(alloc, "gaps", helps::GAPS_ABOUT, helps::GAPS_EXAMPLE)?.arg(flag(
-        alloc,
-        "exit-code",
-        "End with status 5 where there are gaps",
-    ))
+    on_folder(alloc, "gaps", helps::GAPS_ABOUT, helps::GAPS_EXAMPLE)?
+        .arg(optional(
+            alloc,
+            "recall",
+            "A recall, as dairy#1: what it misses; the gaps of all sites where it is left out",
+        ))?
+        .arg(flag(
+            alloc,
+            "exit-code",
+            "End with status 5 where there are gaps, or what is missed isn't held",
+        ))
 }
 
 fn packs<'a>(alloc: Global) -> Result<Command<'a>, AllocError>

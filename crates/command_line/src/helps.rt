@@ -73,6 +73,7 @@ Questions that change nothing:
   recall items chain dairy 400                   the items of a site, found by a part of their text
   recall items chain dairy --in <epc>            what lies in an item, by the packings of all sites
   recall gaps chain                              what sites shipped on that others packed, unseen by recalls
+  recall gaps chain dairy#1                      what that recall misses because of it
   recall packs chain --site dairy                the events that close these gaps, as documents to capture
   recall coverage chain                          what each site captured, and from when to when
   recall lint sites.txt monday.json              all that is wrong in documents, before they are captured
@@ -344,11 +345,17 @@ and then `total packed <count> items <count> used <count> unseen <count>`. A pac
 site that shipped the container captures its packing (AggregationEvent, ADD), as the other one did; do so
 before a recall reaches it. `recall trace` and `recall report` note what of their items is `missed`.
 
+With a recall prints what that one misses, by site and item, and what left the traced sites unseen by it,
+  gap missed <site> <item> [held by <recall>]    it came there by such a container; another recall holds it
+  gap left <site> <item> <destination>           it so left the traced sites
+and then `total missed <count> held <count> left <count>`.
+
 Examples:
   recall gaps chain
-  recall gaps chain --exit-code --json
+  recall gaps chain dairy#1 --exit-code --json
 
-Status: 0 done, 3 a fault, and with `--exit-code` 5 where there are gaps.";
+Status: 0 done, 1 refused, 3 a fault, and with `--exit-code` 5 where there are gaps, or where what a recall
+misses isn't held, or left.";
 
 pub(crate) const LINT_ABOUT: &str =
     "Tells all that is wrong or strange in documents, before they are captured";

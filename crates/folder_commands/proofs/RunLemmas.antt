@@ -141,6 +141,7 @@ module _ {K : Type 0} (shown : K → Option Record) (failed : K → ℕ) (may : 
   came_or_not (outcomes.WouldStart plan ended) end answers = absurd answers
   came_or_not (outcomes.Audited recalls coded) end answers = absurd answers
   came_or_not (outcomes.Gaps gaps coded) end answers = absurd answers
+  came_or_not (outcomes.Missed recall missed coded) end answers = absurd answers
   came_or_not (outcomes.Refused whys) end answers = absurd answers
 
   pub ran_or_not : (outcome : Outcome) (end : Option RunEnd) → AnswersRun shown failed may terms old new outcome end → (new ≡ old) ⊎ ((lists : List RunLog) × RanAsAWorld shown may old new lists)

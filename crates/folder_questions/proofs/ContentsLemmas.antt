@@ -2,7 +2,6 @@
 use Rattle.std.proofs.Common.{◌≡◌, ◌↔◌, ℕ, List, sym, subst}
 use Rattle.recall_outcomes.specs.declared.outcomes.CommandRefusal.TheVariants.{Step}
 use Rattle.recall_outcomes.specs.declared.outcomes.Outcome.{Outcome}
-use Rattle.recall_outcomes.specs.declared.outcomes.Outcome.TheVariants as outcomes
 use Rattle.report_core.specs.Traces.{IsKnownAt}
 use Rattle.site_core.specs.Quarantines.{Quarantine}
 use Rattle.site_core.specs.Records.{Record}
@@ -12,25 +11,10 @@ use Rattle.site_recovery.specs.Looks.{World, world_of}
 use Rattle.site_folders.specs.Refusals.{IsRefusal}
 use Rattle.trace_core.specs.Sites.{SiteEvents}
 use Rattle.folder_questions.specs.Contents.{AnswersContents}
+use Rattle.folder_questions.proofs.RefusalLemmas.{only_refused}
 
-module _ (records : List Record) (site : ℕ) (item text : List ℕ) where
-  pub unknown_told : (o : Outcome) → (IsKnownAt (world_of records) site item → ⊥) → IsRefusal (Step UnknownItem) o → AnswersContents records site item text o
-  unknown_told (outcomes.Refused whys) none is = (none, is)
-  unknown_told outcomes.Created none is = absurd is
-  unknown_told (outcomes.Stepped effects) none is = absurd is
-  unknown_told (outcomes.Ran recalls coded) none is = absurd is
-  unknown_told outcomes.Withheld none is = absurd is
-  unknown_told (outcomes.Reported recall report ways events) none is = absurd is
-  unknown_told (outcomes.Traced trace ways events) none is = absurd is
-  unknown_told (outcomes.TracedBack trace ways events) none is = absurd is
-  unknown_told (outcomes.Standing recalls coded) none is = absurd is
-  unknown_told (outcomes.Waiting detail coded) none is = absurd is
-  unknown_told (outcomes.Known at items) none is = absurd is
-  unknown_told (outcomes.WouldStart quarantined messages) none is = absurd is
-  unknown_told (outcomes.Audited recalls coded) none is = absurd is
-  unknown_told (outcomes.Inconsistent misfit) none is = absurd is
-  unknown_told (outcomes.Covered sites) none is = absurd is
-  unknown_told (outcomes.Gaps gaps coded) none is = absurd is
+pub unknown_told : (records : List Record) (site : ℕ) (item text : List ℕ) (o : Outcome) → (IsKnownAt (world_of records) site item → ⊥) → IsRefusal (Step UnknownItem) o → AnswersContents records site item text o
+unknown_told records site item text o none is = let (whys, same, refused) = only_refused (Step UnknownItem) o is in subst (AnswersContents records site item text) (sym same) (none, refused)
 
 -- what a site knows, by its record
 pub known_here : (W : World) (site : ℕ) (item : List ℕ) (r : Record) (captured : SiteEvents) (quarantine : Quarantine) → captured ≡ r.captured → quarantine ≡ r.quarantine → r ≡ W site

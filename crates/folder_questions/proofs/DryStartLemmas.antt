@@ -2,7 +2,6 @@
 use Rattle.std.proofs.Common.{◌≡◌, ℕ, List, refl, sym, subst}
 use Rattle.recall_outcomes.specs.declared.outcomes.CommandRefusal.TheVariants.{Step}
 use Rattle.recall_outcomes.specs.declared.outcomes.Outcome.{Outcome}
-use Rattle.recall_outcomes.specs.declared.outcomes.Outcome.TheVariants as outcomes
 use Rattle.site_core.specs.Records.{Record}
 use Rattle.site_core.specs.Spreading.{IsKnownItem}
 use Rattle.site_core.specs.Stepping.{IsStepped}
@@ -16,6 +15,7 @@ use Rattle.site_core.specs.declared.steps.Stepped.{Stepped}
 use Rattle.site_core.specs.declared.steps.Stepped.TheVariants.{Same, Next}
 use Rattle.site_folders.specs.Refusals.{IsRefusal}
 use Rattle.folder_questions.specs.DryStarts.{AnswersStep, TellsStart, effects_of}
+use Rattle.folder_questions.proofs.RefusalLemmas.{only_refused}
 
 module _ (r : Record) (input : SiteInput) where
   of_effects : (after : Record) (e : Effects) (o : Outcome) → Does r input e after → TellsStart e o → AnswersStep r input o
@@ -35,21 +35,7 @@ module _ (r : Record) (input : SiteInput) where
   would_answer (Next after e) o is told = of_effects after e o is.0 told
 
 -- the item isn't known, and that is the refusal
-module _ (r : Record) (item : List ℕ) where
-  pub unknown_start : (o : Outcome) → (IsKnownItem r.captured r.quarantine item → ⊥) → IsRefusal (Step refusals.UnknownItem) o → AnswersStep r (Start item) o
-  unknown_start (outcomes.Refused whys) none is = (refusals.UnknownItem, ((λ same. absurd (let no : refusals.UnknownItem ≡ refusals.NoMemory = same in cc)), none), is)
-  unknown_start outcomes.Created none is = absurd is
-  unknown_start (outcomes.Stepped effects) none is = absurd is
-  unknown_start (outcomes.Ran recalls coded) none is = absurd is
-  unknown_start outcomes.Withheld none is = absurd is
-  unknown_start (outcomes.Reported recall report ways events) none is = absurd is
-  unknown_start (outcomes.Traced trace ways events) none is = absurd is
-  unknown_start (outcomes.TracedBack trace ways events) none is = absurd is
-  unknown_start (outcomes.Standing recalls coded) none is = absurd is
-  unknown_start (outcomes.Waiting detail coded) none is = absurd is
-  unknown_start (outcomes.Known at items) none is = absurd is
-  unknown_start (outcomes.WouldStart quarantined messages) none is = absurd is
-  unknown_start (outcomes.Audited recalls coded) none is = absurd is
-  unknown_start (outcomes.Inconsistent misfit) none is = absurd is
-  unknown_start (outcomes.Covered sites) none is = absurd is
-  unknown_start (outcomes.Gaps gaps coded) none is = absurd is
+pub unknown_start : (r : Record) (item : List ℕ) (o : Outcome) → (IsKnownItem r.captured r.quarantine item → ⊥) → IsRefusal (Step refusals.UnknownItem) o → AnswersStep r (Start item) o
+unknown_start r item o none is =
+    let (whys, same, refused) = only_refused (Step refusals.UnknownItem) o is in
+    subst (AnswersStep r (Start item)) (sym same) (refusals.UnknownItem, ((λ same. absurd (let bad : refusals.UnknownItem ≡ refusals.NoMemory = same in cc)), none), refused)

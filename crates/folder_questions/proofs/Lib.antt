@@ -3,5 +3,7 @@ mod ContentsLemmas
 mod CoverageLemmas
 mod DryStartLemmas
 mod KnowerLemmas
+mod MissedLemmas
 mod NoneLemmas
 mod PackLemmas
+mod RefusalLemmas

@@ -7,6 +7,7 @@ pub mod DryStarts
 pub mod Gaps
 pub mod Knowers
 pub mod Laws
+pub mod Missed
 pub mod Packs
 pub mod Reports
 pub mod SiteItems

@@ -26,6 +26,7 @@ use Rattle.frame_core.specs.Numbers.{Message, Recall}
 use Rattle.gap_core.specs.declared.lines.GapLine.{GapLine}
 use Rattle.gap_core.specs.declared.lines.Gaps.{Gaps}
 use Rattle.gap_core.specs.declared.unseen.UnseenItem.{UnseenItem}
+use Rattle.gap_core.specs.declared.untold.UntoldShipment.{UntoldShipment}
 use Rattle.item_spellings.specs.Names.{scan_fault_name}
 use Rattle.item_spellings.specs.declared.faults.ScanFault.{ScanFault}
 use Rattle.item_spellings.specs.declared.faults.ScanFault.TheVariants as scans
@@ -52,8 +53,8 @@ use Rattle.site_core.specs.declared.outcomes.Refusal.{Refusal}
 use Rattle.site_core.specs.declared.outcomes.Refusal.TheVariants as steps
 use Rattle.site_recovery.specs.declared.checking.Misfit.{Misfit}
 use Rattle.trace_core.specs.declared.pairs.Pair.{Pair}
-use Rattle.outcome_forms.specs.Json.{Shown, whole, before, behind, account_json, audited_json, beside_json, covered_json, detail_json, effects_json, engaged_json, event_json, gaps_json, known_json, line_members, list_of, misfit_json, outcome_json, outside_json, packed_json, pair_json, part_json, ran_json, shown_members, shown_outside, shown_way, standing_json, status_json, step_json, step_members, text_or_null, titled_json, trail_json, unseen_json, used_json, verdict_json, waiting_json, why_json, with_events}
-use Rattle.outcome_forms.specs.Telling.{AccountIsOf, AreSameGaps, AuditedIsOf, DetailIsOf, EffectsAreOf, EndsSo, GapIsOf, GapsAreOf, MessageIsOf, OutsideIsOf, PairIsOf, PartIsOf, RecallIsOf, SomeIsOf, StandingIsOf, StepIsOf, TellsAccount, TellsWhy, TitleIsOf, UnseenIsOf, UsedIsOf, ValuesTellKinds, ValuesTellOutcomes, VerdictIsOf, WaitingIsOf, WhyIsOf, kind_of, shown_part}
+use Rattle.outcome_forms.specs.Json.{Shown, whole, before, behind, account_json, audited_json, beside_json, covered_json, detail_json, effects_json, engaged_json, event_json, gaps_json, held_json, known_json, left_json, line_members, list_of, misfit_json, missed_json, missed_pair_json, outcome_json, outside_json, packed_json, pair_json, part_json, ran_json, shown_members, shown_outside, shown_way, standing_json, status_json, step_json, step_members, text_or_null, titled_json, trail_json, unseen_json, used_json, verdict_json, waiting_json, why_json, with_events}
+use Rattle.outcome_forms.specs.Telling.{AccountIsOf, AreSameGaps, AreSameMissed, AuditedIsOf, DetailIsOf, EffectsAreOf, EndsSo, GapIsOf, GapsAreOf, LeftIsOf, MessageIsOf, MissedIsOf, MissedPairIsOf, OutsideIsOf, PairIsOf, PartIsOf, RecallIsOf, SomeIsOf, StandingIsOf, StepIsOf, TellsAccount, TellsWhy, TitleIsOf, UnseenIsOf, UsedIsOf, ValuesTellKinds, ValuesTellOutcomes, VerdictIsOf, WaitingIsOf, WhyIsOf, kind_of, shown_part}
 use Rattle.trace_core.specs.Trails.{before_last}
 use Rattle.report_forms.specs.Accounts.{Account, OutsidePart, Part, way_pairs}
 use Rattle.report_forms.specs.declared.accounts.Title.{Title}
@@ -64,6 +65,8 @@ use Rattle.recall_outcomes.specs.declared.outcomes.AuditedRecall.{AuditedRecall}
 use Rattle.recall_outcomes.specs.declared.outcomes.CommandRefusal.{CommandRefusal}
 use Rattle.recall_outcomes.specs.declared.outcomes.CommandRefusal.TheVariants as refusals
 use Rattle.recall_outcomes.specs.declared.outcomes.FoundGaps.{FoundGaps}
+use Rattle.recall_outcomes.specs.declared.outcomes.MissedPair.{MissedPair}
+use Rattle.recall_outcomes.specs.declared.outcomes.MissedReach.{MissedReach}
 use Rattle.recall_outcomes.specs.declared.outcomes.Outcome.{Outcome}
 use Rattle.recall_outcomes.specs.declared.outcomes.Outcome.TheVariants as outcomes
 use Rattle.recall_outcomes.specs.declared.outcomes.SiteCoverage.{SiteCoverage}
@@ -586,6 +589,34 @@ gaps_tell sites are a b ha hb e = record {
   unseen = listed_tell (UnseenIsOf sites) (unseen_json sites) (unseen_tells sites are) a.unseen.items b.unseen.items ha.unseen hb.unseen (ap (at 2) e);
 }
 
+-- ---- what a recall misses
+
+held_tells : (sites : List Site) → AreSites sites → (r s : Option Recall) → SomeIsOf (RecallIsOf sites) r → SomeIsOf (RecallIsOf sites) s → held_json sites r ≡ held_json sites s → r ≡ s
+held_tells sites are None None hr hs e = refl
+held_tells sites are (Some r) (Some s) hr hs e = ap Some (recall_tells sites are r s hr hs (ap text_in e))
+held_tells sites are r s hr hs e = cc
+
+missed_pair_tells : (sites : List Site) → AreSites sites → (a b : MissedPair) → MissedPairIsOf sites a → MissedPairIsOf sites b → missed_pair_json sites a ≡ missed_pair_json sites b → a ≡ b
+unfolding pair_by
+missed_pair_tells sites are a b ha hb e =
+    let of : Pair → Option Recall → MissedPair = λ p r. record { pair = p; held = r } in
+    ap₂ of (ap₂ pair_by (site_tells sites are a.pair.site b.pair.site ha.0 hb.0 (ap (text_at 2) e)) (ap (text_at 1) e)) (held_tells sites are a.held b.held ha.1 hb.1 (ap (at 0) e))
+
+left_tells : (sites : List Site) → AreSites sites → (a b : UntoldShipment) → LeftIsOf sites a → LeftIsOf sites b → left_json sites a ≡ left_json sites b → a ≡ b
+left_tells sites are a b ha hb e =
+    let of : ℕ → List ℕ × List ℕ → UntoldShipment = λ s x. record { site = s; item = x.0; destination = x.1 } in
+    ap₂ of (site_tells sites are a.site b.site ha hb (ap (text_at 2) e)) (ap (λ d. (text_at 1 d, text_at 0 d)) e)
+
+missed_tell : (sites : List Site) → AreSites sites → (r s : Recall) (a b : MissedReach) → RecallIsOf sites r → RecallIsOf sites s → MissedIsOf sites a → MissedIsOf sites b
+    → missed_json sites r a ≡ missed_json sites s b → (r ≡ s) × AreSameMissed a b
+unfolding missed_json
+missed_tell sites are r s a b hr hs ha hb e =
+    let same : AreSameMissed a b = record {
+      pairs = listed_tell (MissedPairIsOf sites) (missed_pair_json sites) (missed_pair_tells sites are) a.pairs.items b.pairs.items ha.pairs hb.pairs (ap (at 1) e);
+      outside = listed_tell (LeftIsOf sites) (left_json sites) (left_tells sites are) a.outside.items b.outside.items ha.outside hb.outside (ap (at 0) e);
+    } in
+    (recall_tells sites are r s hr hs (ap (text_at 2) e), same)
+
 -- ---- refusals
 
 kind_tells : (k l : DocFaultKind) → kind_name k ≡ kind_name l → k ≡ l
@@ -770,6 +801,7 @@ values_tell sites are = record {
   audits = λ r s hr hs e. mapped_tell (AuditedIsOf sites) (audited_json sites) (audit_tells sites are) r s hr hs e;
   misfits = λ a b ha hb e. misfit_tells sites are a b ha hb e;
   gaps = λ a b ha hb e. gaps_tell sites are a b ha hb e;
+  missed = λ r s a b hr hs ha hb e. missed_tell sites are r s a b hr hs ha hb e;
   coverages = λ a b ha hb e. mapped_tell (λ (c : SiteCoverage). c.site < length sites) (covered_json sites) (covered_tells sites are) a b ha hb e;
   refusals = λ a b ha hb e. whys_tell sites are a b ha hb e;
 }
@@ -792,6 +824,7 @@ kind_in d =
     if has (codes "audit") d then 10 else
     if has (codes "misfit") d then 11 else
     if has (codes "unseen") d then 13 else
+    if has (codes "missed") d then 16 else
     if has (codes "would") d then 9 else
     if has (codes "events") d then 8 else
     if has (codes "origins") d then 5 else
@@ -850,7 +883,7 @@ why_kind sites refusals.UnknownRecall = refl
 why_kind sites (refusals.Step why) = step_kind sites why
 
 kind_told : (sites : List Site) (o : Outcome) → 0 < length (outcome_json sites o) → first_kind (outcome_json sites o) ≡ Some (kind_of o)
-unfolding account_json status_json detail_json gaps_json
+unfolding account_json status_json detail_json gaps_json missed_json
 kind_told sites outcomes.Created some = refl
 kind_told sites (outcomes.Stepped done) some = ap Some (effects_kind sites done)
 kind_told sites (outcomes.Ran recalls coded) some = listed_kind (ran_json sites) 2 (λ b. refl) recalls.items some
@@ -866,6 +899,7 @@ kind_told sites (outcomes.Covered found) some = listed_kind (covered_json sites)
 kind_told sites (outcomes.Audited recalls coded) some = listed_kind (audited_json sites) 10 (λ b. verdict_kind sites b.recall b.verdict) recalls.items some
 kind_told sites (outcomes.Inconsistent misfit) some = refl
 kind_told sites (outcomes.Gaps gaps coded) some = refl
+kind_told sites (outcomes.Missed r missed coded) some = refl
 kind_told sites (outcomes.Refused whys) some = listed_kind (why_json sites) 12 (why_kind sites) whys.items some
 
 pub values_tell_kinds : ValuesTellKinds

@@ -10,6 +10,8 @@ use Rattle.recall_outcomes.specs.declared.outcomes.SiteCoverage.{SiteCoverage}
 use Rattle.recall_outcomes.specs.declared.outcomes.CommandRefusal.{CommandRefusal}
 use Rattle.recall_outcomes.specs.declared.outcomes.CommandRefusal.TheVariants as refusals
 use Rattle.recall_outcomes.specs.declared.outcomes.FoundGaps.{FoundGaps}
+use Rattle.recall_outcomes.specs.declared.outcomes.MissedPair.{MissedPair}
+use Rattle.recall_outcomes.specs.declared.outcomes.MissedReach.{MissedReach}
 use Rattle.recall_outcomes.specs.declared.outcomes.Outcome.{Outcome}
 use Rattle.recall_outcomes.specs.declared.outcomes.Outcome.TheVariants as outcomes
 use Rattle.recall_outcomes.specs.declared.outcomes.Ways.{Ways}
@@ -33,7 +35,7 @@ use Rattle.site_core.specs.declared.outcomes.Refusal.{Refusal}
 use Rattle.site_core.specs.declared.outcomes.Refusal.TheVariants as steps
 use Rattle.trace_core.specs.declared.pairs.Pair.{Pair}
 use Rattle.outcome_forms.specs.Accounts.{told_events}
-use Rattle.outcome_forms.specs.Json.{Shown, whole, before, behind, account_json, audited_json, beside_json, covered_json, created_json, detail_json, effects_json, engaged_json, event_json, gaps_json, known_json, line_members, list_of, misfit_json, outcome_json, outside_json, packed_json, pair_json, part_json, ran_json, root_json, shown_members, shown_outside, shown_way, standing_json, status_json, step_json, step_members, text_or_null, titled_json, trail_json, unseen_json, used_json, verdict_json, waiting_json, why_json, with_events, would_json, withheld_json}
+use Rattle.outcome_forms.specs.Json.{Shown, whole, before, behind, account_json, audited_json, beside_json, covered_json, created_json, detail_json, effects_json, engaged_json, event_json, gaps_json, held_json, known_json, left_json, line_members, list_of, misfit_json, missed_json, missed_pair_json, outcome_json, outside_json, packed_json, pair_json, part_json, ran_json, root_json, shown_members, shown_outside, shown_way, standing_json, status_json, step_json, step_members, text_or_null, titled_json, trail_json, unseen_json, used_json, verdict_json, waiting_json, why_json, with_events, would_json, withheld_json}
 use Rattle.outcome_forms.specs.Telling.{ValuesAreRead}
 use Rattle.outcome_forms.proofs.Reading.{IsTree, all_read, deeper, tree_free}
 
@@ -181,6 +183,23 @@ gaps_tree sites gaps = (
   ),
 )
 
+held_tree : (sites : List Site) (r : Option Recall) → IsTree 3 (held_json sites r)
+held_tree sites None = tt
+held_tree sites (Some r) = tt
+
+missed_pair_tree : (sites : List Site) (m : MissedPair) → IsTree 4 (missed_pair_json sites m)
+missed_pair_tree sites m = (refl, (held_tree sites m.held, (tt, (tt, tt))))
+
+missed_tree : (sites : List Site) (r : Recall) (missed : MissedReach) → IsTree 6 (missed_json sites r missed)
+unfolding missed_json
+missed_tree sites r missed = (
+  refl,
+  (
+    list_tree 4 (left_json sites) (λ x. (refl, (tt, (tt, (tt, tt))))) missed.outside.items,
+    (list_tree 4 (missed_pair_json sites) (missed_pair_tree sites) missed.pairs.items, (tt, tt)),
+  ),
+)
+
 created_tree : (sites : List Site) → IsTree 6 (created_json sites)
 created_tree sites = (refl, (list_tree 4 (λ (s : Site). string s.name) (λ s. tt) sites, tt))
 
@@ -214,6 +233,7 @@ all_trees sites outcomes.Withheld = one_tree withheld_json (refl, (tt, tt))
 all_trees sites (outcomes.Audited recalls coded) = each_tree (audited_json sites) (λ a. verdict_tree sites a.recall a.verdict) recalls.items
 all_trees sites (outcomes.Inconsistent misfit) = one_tree (misfit_json sites misfit) (refl, (tt, (tt, tt)))
 all_trees sites (outcomes.Gaps gaps coded) = one_tree (gaps_json sites gaps) (gaps_tree sites gaps)
+all_trees sites (outcomes.Missed r missed coded) = one_tree (missed_json sites r missed) (missed_tree sites r missed)
 all_trees sites (outcomes.Refused whys) = each_tree (why_json sites) (why_tree sites) whys.items
 
 pub values_are_read : ValuesAreRead

@@ -7,6 +7,7 @@ use Rattle.event_json.specs.declared.doc_faults.DocFault.{DocFault}
 use Rattle.frame_core.specs.Numbers.{Recall, Message}
 use Rattle.gap_core.specs.declared.lines.GapLine.{GapLine}
 use Rattle.gap_core.specs.declared.unseen.UnseenItem.{UnseenItem}
+use Rattle.gap_core.specs.declared.untold.UntoldShipment.{UntoldShipment}
 use Rattle.item_spellings.specs.Names.{scan_fault_name}
 use Rattle.query_core.specs.declared.known_items.KnownItem.{KnownItem}
 use Rattle.query_core.specs.declared.recalls.RecallDetail.{RecallDetail}
@@ -47,6 +48,8 @@ use Rattle.recall_outcomes.specs.declared.outcomes.AuditedRecall.{AuditedRecall}
 use Rattle.recall_outcomes.specs.declared.outcomes.CommandRefusal.{CommandRefusal}
 use Rattle.recall_outcomes.specs.declared.outcomes.CommandRefusal.TheVariants as refusals
 use Rattle.recall_outcomes.specs.declared.outcomes.FoundGaps.{FoundGaps}
+use Rattle.recall_outcomes.specs.declared.outcomes.MissedPair.{MissedPair}
+use Rattle.recall_outcomes.specs.declared.outcomes.MissedReach.{MissedReach}
 use Rattle.recall_outcomes.specs.declared.outcomes.Outcome.{Outcome}
 use Rattle.recall_outcomes.specs.declared.outcomes.Outcome.TheVariants as outcomes
 use Rattle.recall_outcomes.specs.declared.outcomes.SiteCoverage.{SiteCoverage}
@@ -270,6 +273,26 @@ gaps_json sites gaps =
     object (count_at (codes "items") gaps.packed.items (member (codes "packed") (list_of (packed_json sites) gaps.packed.lines)
     (member (codes "unseen") (list_of (unseen_json sites) gaps.unseen.items) (member (codes "used") (list_of (used_json sites) gaps.used.items) no_members))))
 
+-- ---- what a recall misses
+
+-- the recall that holds a pair, or null
+abbrev pub held_json : List Site → Option Recall → Data
+held_json sites None = null
+held_json sites (Some r) = string (recall_text sites r)
+
+abbrev pub missed_pair_json : List Site → MissedPair → Data
+missed_pair_json sites m = object (member (codes "held_by") (held_json sites m.held) (pair_members sites m.pair no_members))
+
+-- an item that left the traced sites, the site that shipped it, and where it went
+abbrev pub left_json : List Site → UntoldShipment → Data
+left_json sites x =
+    object (text_at (codes "destination") x.destination (text_at (codes "item") x.item (text_at (codes "site") (name_at sites x.site) no_members)))
+
+unfoldable pub missed_json : List Site → Recall → MissedReach → Data
+missed_json sites r missed =
+    object (member (codes "left") (list_of (left_json sites) missed.outside.items) (member (codes "missed") (list_of (missed_pair_json sites) missed.pairs.items)
+    (text_at (codes "recall") (recall_text sites r) no_members)))
+
 -- ---- refusals
 
 abbrev pub refused : List ℕ → Members → Members
@@ -344,6 +367,7 @@ outcome_json sites (outcomes.Audited recalls coded) = map (audited_json sites) r
 outcome_json sites (outcomes.Inconsistent misfit) = misfit_json sites misfit ∷ []
 outcome_json sites (outcomes.Covered found) = map (covered_json sites) found.items
 outcome_json sites (outcomes.Gaps gaps coded) = gaps_json sites gaps ∷ []
+outcome_json sites (outcomes.Missed r missed coded) = missed_json sites r missed ∷ []
 outcome_json sites (outcomes.Refused whys) = map (why_json sites) whys.items
 
 -- ---- inputs of several, with their source

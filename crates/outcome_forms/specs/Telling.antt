@@ -8,6 +8,7 @@ use Rattle.event_json.specs.Sites.{AreSites, Site}
 use Rattle.frame_core.specs.Numbers.{Message, Recall}
 use Rattle.gap_core.specs.declared.lines.GapLine.{GapLine}
 use Rattle.gap_core.specs.declared.unseen.UnseenItem.{UnseenItem}
+use Rattle.gap_core.specs.declared.untold.UntoldShipment.{UntoldShipment}
 use Rattle.query_core.specs.declared.known_items.KnownItem.{KnownItem}
 use Rattle.query_core.specs.declared.recalls.RecallDetail.{RecallDetail}
 use Rattle.query_core.specs.declared.recalls.RecallStatus.{RecallStatus}
@@ -25,7 +26,7 @@ use Rattle.site_core.specs.declared.outcomes.Refusal.{Refusal}
 use Rattle.site_core.specs.declared.outcomes.Refusal.TheVariants as steps
 use Rattle.site_recovery.specs.declared.checking.Misfit.{Misfit}
 use Rattle.trace_core.specs.declared.pairs.Pair.{Pair}
-use Rattle.outcome_forms.specs.Json.{Shown, account_json, audited_json, covered_json, detail_json, effects_json, gaps_json, json_lines, known_json, misfit_json, outcome_json, ran_json, shown_way, status_json, why_json, would_json}
+use Rattle.outcome_forms.specs.Json.{Shown, account_json, audited_json, covered_json, detail_json, effects_json, gaps_json, json_lines, known_json, misfit_json, missed_json, outcome_json, ran_json, shown_way, status_json, why_json, would_json}
 use Rattle.report_forms.specs.Accounts.{Account, OutsidePart, Part, way_pairs}
 use Rattle.report_forms.specs.declared.accounts.Title.{Title}
 use Rattle.report_forms.specs.declared.accounts.Title.TheVariants as titles
@@ -33,6 +34,8 @@ use Rattle.recall_outcomes.specs.declared.outcomes.AuditedRecall.{AuditedRecall}
 use Rattle.recall_outcomes.specs.declared.outcomes.CommandRefusal.{CommandRefusal}
 use Rattle.recall_outcomes.specs.declared.outcomes.CommandRefusal.TheVariants as refusals
 use Rattle.recall_outcomes.specs.declared.outcomes.FoundGaps.{FoundGaps}
+use Rattle.recall_outcomes.specs.declared.outcomes.MissedPair.{MissedPair}
+use Rattle.recall_outcomes.specs.declared.outcomes.MissedReach.{MissedReach}
 use Rattle.recall_outcomes.specs.declared.outcomes.Outcome.{Outcome}
 use Rattle.recall_outcomes.specs.declared.outcomes.Outcome.TheVariants as outcomes
 use Rattle.recall_outcomes.specs.declared.outcomes.SiteCoverage.{SiteCoverage}
@@ -92,6 +95,7 @@ kind_of (outcomes.Refused whys) = 12
 kind_of (outcomes.Gaps gaps coded) = 13
 kind_of outcomes.Withheld = 14
 kind_of (outcomes.Covered found) = 15
+kind_of (outcomes.Missed r missed coded) = 16
 
 -- Where there is a value, it tells which outcome it is.
 abbrev pub ValuesTellKinds : Type 0
@@ -154,6 +158,21 @@ pub record AreSameGaps (a b : FoundGaps) : Type 0 where
   pub packed : a.packed ≡ b.packed
   pub used : a.used.items ≡ b.used.items
   pub unseen : a.unseen.items ≡ b.unseen.items
+
+abbrev pub MissedPairIsOf : List Site → MissedPair → Type 0
+MissedPairIsOf sites m = PairIsOf sites m.pair × SomeIsOf (RecallIsOf sites) m.held
+
+abbrev pub LeftIsOf : List Site → UntoldShipment → Type 0
+LeftIsOf sites x = x.site < length sites
+
+pub record MissedIsOf (sites : List Site) (missed : MissedReach) : Type 0 where
+  pub pairs : All (MissedPairIsOf sites) missed.pairs.items
+  pub outside : All (LeftIsOf sites) missed.outside.items
+
+-- a recall misses the same, by its lists
+pub record AreSameMissed (a b : MissedReach) : Type 0 where
+  pub pairs : a.pairs.items ≡ b.pairs.items
+  pub outside : a.outside.items ≡ b.outside.items
 
 abbrev pub StepIsOf : List Site → Refusal → Type 0
 StepIsOf sites (steps.Blocked r key event) = RecallIsOf sites r
@@ -224,6 +243,8 @@ pub record ValuesTell (sites : List Site) : Type 0 where
   pub audits : (r s : List AuditedRecall) → All (AuditedIsOf sites) r → All (AuditedIsOf sites) s → map (audited_json sites) r ≡ map (audited_json sites) s → r ≡ s
   pub misfits : (a b : Misfit) → a.site < length sites → b.site < length sites → misfit_json sites a ≡ misfit_json sites b → a ≡ b
   pub gaps : (a b : FoundGaps) → GapsAreOf sites a → GapsAreOf sites b → gaps_json sites a ≡ gaps_json sites b → AreSameGaps a b
+  pub missed : (r s : Recall) (a b : MissedReach) → RecallIsOf sites r → RecallIsOf sites s → MissedIsOf sites a → MissedIsOf sites b
+      → missed_json sites r a ≡ missed_json sites s b → (r ≡ s) × AreSameMissed a b
   pub coverages : (a b : List SiteCoverage) → All (λ (c : SiteCoverage). c.site < length sites) a → All (λ (c : SiteCoverage). c.site < length sites) b
       → map (covered_json sites) a ≡ map (covered_json sites) b → a ≡ b
   pub refusals : (a b : List CommandRefusal) → All (WhyIsOf sites) a → All (WhyIsOf sites) b → map (why_json sites) a ≡ map (why_json sites) b → AllZip TellsWhy a b

@@ -1,6 +1,6 @@
 //! What a person does next, or should know, after what a command came to: one line a kind.
 
-use recall_outcomes::{CommandRefusal, Outcome};
+use recall_outcomes::{CommandRefusal, MissedReach, Outcome};
 use site_core::{Effects, Refusal};
 
 /// A line for the error stream, behind the answer, which begins with `note: `; `None` where there is nothing to add.
@@ -36,6 +36,14 @@ pub(crate) fn advice(outcome: &Outcome) -> Option<&'static str> {
         Outcome::Gaps { gaps, coded: _ } => or_none(
             gaps.packed.lines.len() > 0,
             "note: past the site that shipped such a container on, a recall finds nothing of what others packed into it: before one reaches it, have that site capture the packing, which `recall packs` prints\n",
+        ),
+        Outcome::Missed {
+            recall: _,
+            missed,
+            coded: _,
+        } => or_none(
+            some_unheld(missed),
+            "note: no recall holds all of this: have the sites that sent it on capture the packings, which `recall packs` prints; where that is refused with `Blocked`, capture them at the sites of these pairs, start a recall of each item there, and warn the destinations of what left\n",
         ),
         Outcome::Refused(whys) => or_none(
             whys.iter().any(|why| is_blocked(why)),
@@ -79,6 +87,11 @@ fn effects_advice(effects: &Effects) -> Option<&'static str> {
 /// Where a recall is open.
 fn open_advice(is_open: bool) -> Option<&'static str> {
     or_none(is_open, "note: `recall run` goes on with what is open\n")
+}
+
+/// Whether a recall misses something that none holds: a pair, or what left the traced sites.
+fn some_unheld(missed: &MissedReach) -> bool {
+    missed.pairs.iter().any(|pair| pair.held.is_none()) || !missed.outside.is_empty()
 }
 
 /// Whether an event was blocked.

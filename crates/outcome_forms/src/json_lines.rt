@@ -12,6 +12,7 @@ ghost use Rattle.outcome_forms.specs.Writing.{AppendsText, is_of_writing};
 
 use crate::account_json::{account_head, account_tail, part_json, value_text};
 use crate::gap_json::gaps_json;
+use crate::missed_json::missed_json;
 use crate::outcome_json::{created_json, effects_json, misfit_json, withheld_json};
 use crate::query_json::{detail_json, known_values, would_json};
 use crate::values::values;
@@ -48,6 +49,11 @@ pub(crate) fn outcome_values(
         Outcome::Inconsistent(misfit) => one(alloc, misfit_json(alloc, sites, *misfit)?),
         Outcome::Covered(found) => values(alloc, sites, found.as_slice()),
         Outcome::Gaps { gaps, coded: _ } => one(alloc, gaps_json(alloc, sites, gaps)?),
+        Outcome::Missed {
+            recall,
+            missed,
+            coded: _,
+        } => one(alloc, missed_json(alloc, sites, *recall, missed)?),
         Outcome::Refused(whys) => values(alloc, sites, whys.as_slice()),
         _ => Ok(Vec::new(alloc)),
     }

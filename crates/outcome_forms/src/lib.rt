@@ -17,6 +17,8 @@ mod forms;
 mod gap_json;
 mod json_lines;
 pub mod laws;
+mod missed_json;
+mod missed_texts;
 mod notes;
 mod outcome_json;
 mod outcome_texts;

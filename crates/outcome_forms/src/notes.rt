@@ -1,6 +1,7 @@
 //! What is told beside an outcome, in lines of the error stream.
 
 use event_json::{MAX_ADDRESSES, SiteNo, Sites, Untraced};
+use gap_core::UntoldShipment;
 use item_spellings::are_one_place;
 use query_core::StuckRecall;
 use recall_outcomes::{
@@ -230,39 +231,20 @@ fn push_missed(
     text.push_str(format!(in alloc; "missed {count} at {name}\n")?.as_str())
 }
 
-/// Of a report, or of a trace to where an item went: for each listed address of a site that names a place outside in
-/// another spelling a line, with the first such place.
+/// Of a report, of a trace to where an item went, and of what a recall misses: for each listed address of a site that
+/// names a place outside in another spelling a line, with the first such place.
 pub(crate) fn places_text(
     alloc: Global,
     sites: &Sites,
     outcome: &Outcome,
 ) -> Result<String, AllocError> {
     let mut text = String::new(alloc);
-    let outside = outside_of(outcome);
     for number in 0..sites.len() {
         if let Some(site) = SiteNo::of(number) {
-            push_places(alloc, &mut text, sites, outside, site)?;
+            push_places(alloc, &mut text, sites, outcome, site)?;
         }
     }
     Ok(text)
-}
-
-/// What left the traced sites.
-fn outside_of(outcome: &Outcome) -> &[OutsideShipment] {
-    match outcome {
-        Outcome::Reported {
-            recall: _,
-            report,
-            ways: _,
-            events: _,
-        } => report.outside.as_slice(),
-        Outcome::Traced {
-            trace,
-            ways: _,
-            events: _,
-        } => trace.outside.as_slice(),
-        _ => &[],
-    }
 }
 
 /// Adds the lines of the addresses of a site.
@@ -270,7 +252,7 @@ fn push_places(
     alloc: Global,
     text: &mut String,
     sites: &Sites,
-    outside: &[OutsideShipment],
+    outcome: &Outcome,
     site: SiteNo,
 ) -> Result<(), AllocError> {
     let name = name_of(sites, site);
@@ -278,11 +260,7 @@ fn push_places(
         let Some(address) = sites.address(site, place) else {
             return Ok(());
         };
-        let found = outside
-            .iter()
-            .find(|s| are_one_place(address, s.destination.as_str()));
-        if let Some(shipment) = found {
-            let there = shipment.destination.as_str();
+        if let Some(there) = other_spelling(outcome, address) {
             let line = format!(in alloc;
                 "note: the destination {there} may be {name}, whose address {address} names the same place\n"
             )?;
@@ -290,4 +268,41 @@ fn push_places(
         }
     }
     Ok(())
+}
+
+/// The first place outside, of what left the traced sites, that an address names in another spelling.
+fn other_spelling<'a>(outcome: &'a Outcome, address: &str) -> Option<&'a str> {
+    match outcome {
+        Outcome::Reported {
+            recall: _,
+            report,
+            ways: _,
+            events: _,
+        } => shipped_there(report.outside.as_slice(), address),
+        Outcome::Traced {
+            trace,
+            ways: _,
+            events: _,
+        } => shipped_there(trace.outside.as_slice(), address),
+        Outcome::Missed {
+            recall: _,
+            missed,
+            coded: _,
+        } => left_there(missed.outside.as_slice(), address),
+        _ => None,
+    }
+}
+
+fn shipped_there<'a>(outside: &'a [OutsideShipment], address: &str) -> Option<&'a str> {
+    let found = outside
+        .iter()
+        .find(|s| are_one_place(address, s.destination.as_str()))?;
+    Some(found.destination.as_str())
+}
+
+fn left_there<'a>(outside: &'a [UntoldShipment], address: &str) -> Option<&'a str> {
+    let found = outside
+        .iter()
+        .find(|s| are_one_place(address, s.destination.as_str()))?;
+    Some(found.destination.as_str())
 }

@@ -1,5 +1,6 @@
 //! Outcomes in lines of words, but for reports and traces.
 
+use crate::missed_texts::missed_reach_text;
 use crate::shown_texts::shown;
 use event_json::{PlainText, Sites};
 use frame_core::RecallId;
@@ -67,6 +68,11 @@ pub(crate) fn outcome_text(
             return format!(in alloc; "misfit {condition} {name}\n");
         }
         Outcome::Gaps { gaps, coded: _ } => push_gaps(alloc, &mut text, sites, gaps)?,
+        Outcome::Missed {
+            recall: _,
+            missed,
+            coded: _,
+        } => return missed_reach_text(alloc, sites, missed),
         Outcome::Refused(whys) => {
             for why in whys {
                 let words = why_words(alloc, sites, why)?;

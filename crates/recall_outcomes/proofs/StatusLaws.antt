@@ -1,15 +1,16 @@
 -- the law of statuses
-use Rattle.std.proofs.Common.{◌≡◌, ◌⊎◌, inl, inr, ℕ, Bool, true, false, not, ◌&&◌, ◌==◌, if◌then◌else◌, List, [], ◌∷◌, length, Contains, Option, Some, None, refl, sym, ap, subst, ◌∙◌, ⊎_elim, arith}
+use Rattle.std.proofs.Common.{◌≡◌, ◌⊎◌, inl, inr, ℕ, Bool, true, false, not, ◌&&◌, ◌||◌, ◌==◌, if◌then◌else◌, List, [], ◌∷◌, length, Contains, Option, Some, None, is_none, refl, sym, ap, subst, ◌∙◌, ⊎_elim, arith}
 use mathlib.Core.Bool.{false≢true}
 use Rattle.std.specs.List.{list_any}
-use Rattle.std.proofs.lemmas.Bool.{ne_eqb}
+use Rattle.std.proofs.lemmas.Bool.{ne_eqb, or_left, or_right}
 use Rattle.report_core.specs.declared.audits.Verdict.{Verdict}
 use Rattle.report_core.specs.declared.audits.Verdict.TheVariants.{Equal, Differs}
 use Rattle.trace_core.proofs.Members.{contains_here, contains_none, list_any_member, list_any_witness}
-use Rattle.recall_outcomes.specs.Laws.{HasGap, IsAmiss, IsRefused, IsWrong, StatusesTell, StatusesTellOutcomes, TellsOpen}
-use Rattle.recall_outcomes.specs.Statuses.{differs, has_gaps, is_amiss, is_none, is_open, is_unended, is_unjudged, outcome_status}
+use Rattle.recall_outcomes.specs.Laws.{HasGap, HasMissed, IsAmiss, IsRefused, IsWrong, StatusesTell, StatusesTellOutcomes, TellsOpen}
+use Rattle.recall_outcomes.specs.Statuses.{differs, has_gaps, has_missed, is_amiss, is_open, is_unended, is_unheld, is_unjudged, outcome_status}
 use Rattle.recall_outcomes.specs.declared.outcomes.AuditedRecall.{AuditedRecall}
 use Rattle.recall_outcomes.specs.declared.outcomes.FoundGaps.{FoundGaps}
+use Rattle.recall_outcomes.specs.declared.outcomes.MissedReach.{MissedReach}
 use Rattle.recall_outcomes.specs.declared.outcomes.Outcome.{Outcome}
 use Rattle.recall_outcomes.specs.declared.outcomes.Outcome.TheVariants as outcomes
 
@@ -65,6 +66,32 @@ gaps_of gaps has =
     ⊎_elim
     (λ (l, there). first_not a b c (empty_has_none gaps.packed.lines l there))
     (λ more. ⊎_elim (λ (l, there). second_not a b c (empty_has_none gaps.used.items l there)) (λ (u, there). third_not a b c (empty_has_none gaps.unseen.items u there)) more)
+    has
+
+either_one : (a b : Bool) → a || b ≡ true → (a ≡ true) ⊎ (b ≡ true)
+either_one true b e = inl refl
+either_one false b e = inr e
+
+not_true : (b : Bool) → not b ≡ true → b ≡ false
+not_true false e = refl
+not_true true e = absurd (false≢true e)
+
+none_of : {X : Type 0} (o : Option X) → is_none o ≡ true → o ≡ None
+none_of None e = refl
+none_of (Some x) e = absurd (false≢true e)
+
+missed_of : (missed : MissedReach) → has_missed missed ≡ true → HasMissed missed
+missed_of missed e = ⊎_elim
+    (λ unheld. let (m, within, found) = list_any_witness is_unheld missed.pairs.items unheld in inl (m, within, none_of m.held found))
+    (λ outside. inr (some_first missed.outside.items (not_true (length missed.outside.items == 0) outside)))
+    (either_one (list_any is_unheld missed.pairs.items) (not (length missed.outside.items == 0)) e)
+
+of_missed : (missed : MissedReach) → HasMissed missed → has_missed missed ≡ true
+of_missed missed has =
+    let (unheld, outside) : Bool × Bool = (list_any is_unheld missed.pairs.items, not (length missed.outside.items == 0)) in
+    ⊎_elim
+    (λ (m, within, is). or_left unheld outside (list_any_member is_unheld missed.pairs.items m within (ap is_none is)))
+    (λ (x, within). or_right unheld outside (ap not (empty_has_none missed.outside.items x within)))
     has
 
 -- ---- a status that is 0 or another one
@@ -142,14 +169,6 @@ also_and : (a b : Bool) → a ≡ true → b ≡ true → a && b ≡ true
 also_and true b a e = e
 also_and false b a e = absurd (false≢true a)
 
-not_true : (b : Bool) → not b ≡ true → b ≡ false
-not_true false e = refl
-not_true true e = absurd (false≢true e)
-
-unjudged_of : (verdict : Option Verdict) → is_none verdict ≡ true → verdict ≡ None
-unjudged_of None e = refl
-unjudged_of (Some verdict) e = absurd (false≢true e)
-
 none_amiss : (recalls : List AuditedRecall) → list_any is_amiss recalls ≡ false → (audited : AuditedRecall) → Contains recalls audited → IsWrong audited → ⊥
 none_amiss recalls none audited within wrong = false≢true (sym none ∙ list_any_member is_amiss recalls audited within (amiss_of audited wrong))
 
@@ -183,7 +202,7 @@ statuses_tell (outcomes.Audited recalls coded) =
     (λ e. let (audited, within, found) = list_any_witness is_amiss recalls.items e in (audited, within, wrong_of audited audited.verdict refl found))
     (λ (audited, within, is). list_any_member is_amiss recalls.items audited within (amiss_of audited is))
     (λ none e. let (asked, audited, within, found) = asked_any is_unjudged coded recalls.items e in
-    (none_amiss recalls.items none, asked, audited, within, unjudged_of audited.verdict found))
+    (none_amiss recalls.items none, asked, audited, within, none_of audited.verdict found))
     (λ (none, asked, audited, within, is). (
       some_amiss recalls.items (list_any is_amiss recalls.items) refl none,
       any_asked is_unjudged coded recalls.items audited asked within (ap is_none is),
@@ -199,6 +218,10 @@ statuses_tell (outcomes.Gaps gaps coded) =
     five_or_done (outcomes.Gaps gaps coded) (coded && has_gaps gaps) refl (λ no. no) (λ no. no)
     (λ e. let (asked, found) = and_also coded (has_gaps gaps) e in (asked, gap_of gaps found))
     (λ (asked, has). also_and coded (has_gaps gaps) asked (gaps_of gaps has))
+statuses_tell (outcomes.Missed r missed coded) =
+    five_or_done (outcomes.Missed r missed coded) (coded && has_missed missed) refl (λ no. no) (λ no. no)
+    (λ e. let (asked, found) = and_also coded (has_missed missed) e in (asked, missed_of missed found))
+    (λ (asked, has). also_and coded (has_missed missed) asked (of_missed missed has))
 statuses_tell (outcomes.Refused whys) = record {
   refused = (λ e. tt, λ is. refl);
   amiss = (λ e. let no : ⊥ = omega (arith, e) in absurd no, λ no. absurd no);

@@ -1,7 +1,8 @@
 -- What statuses tell.
-use Rattle.std.specs.Prelude.{◌≡◌, ◌⊎◌, ◌↔◌, ⊤, ℕ, Bool, true, false, Contains, Some, None}
+use Rattle.std.specs.Prelude.{◌≡◌, ◌⊎◌, ◌↔◌, ⊤, Bool, true, false, Contains, Some, None}
 use Rattle.gap_core.specs.declared.lines.GapLine.{GapLine}
 use Rattle.gap_core.specs.declared.unseen.UnseenItem.{UnseenItem}
+use Rattle.gap_core.specs.declared.untold.UntoldShipment.{UntoldShipment}
 use Rattle.query_core.specs.declared.recalls.RecallStatus.{RecallStatus}
 use Rattle.report_core.specs.declared.audits.Verdict.TheVariants.{Differs}
 use Rattle.trace_core.specs.declared.pairs.Pair.{Pair}
@@ -13,6 +14,8 @@ use Rattle.recall_outcomes.specs.declared.batches.Totals.{Totals}
 use Rattle.recall_outcomes.specs.declared.outcomes.AuditedRecall.{AuditedRecall}
 use Rattle.recall_outcomes.specs.declared.outcomes.CommandRefusal.{CommandRefusal}
 use Rattle.recall_outcomes.specs.declared.outcomes.FoundGaps.{FoundGaps}
+use Rattle.recall_outcomes.specs.declared.outcomes.MissedPair.{MissedPair}
+use Rattle.recall_outcomes.specs.declared.outcomes.MissedReach.{MissedReach}
 use Rattle.recall_outcomes.specs.declared.outcomes.StartedRecall.{StartedRecall}
 use Rattle.recall_outcomes.specs.declared.outcomes.Outcome.{Outcome}
 use Rattle.recall_outcomes.specs.declared.outcomes.Outcome.TheVariants as outcomes
@@ -42,11 +45,18 @@ IsOpen status = status.ended ≡ false
 abbrev pub HasGap : FoundGaps → Type 0
 HasGap gaps = ((l : GapLine) × Contains gaps.packed.lines l) ⊎ (((l : GapLine) × Contains gaps.used.items l) ⊎ ((u : UnseenItem) × Contains gaps.unseen.items u))
 
--- it was asked for a status that tells of open recalls, or of gaps, and there is one; or that sites don't run where open recalls miss items
+-- a recall misses a pair that no recall holds, or something that left the traced sites
+abbrev pub HasMissed : MissedReach → Type 0
+HasMissed missed =
+    ((m : MissedPair) × Contains missed.pairs.items m × (m.held ≡ None)) ⊎ ((x : UntoldShipment) × Contains missed.outside.items x)
+
+-- it was asked for a status that tells of open recalls, of gaps, or of what a recall misses and none holds, and there is one; or that sites don't run where open
+-- recalls miss items
 abbrev pub TellsOpen : Outcome → Type 0
 TellsOpen (outcomes.Standing recalls coded) = (coded ≡ true) × (status : RecallStatus) × Contains recalls.items status × IsOpen status
 TellsOpen (outcomes.Waiting detail coded) = (coded ≡ true) × IsOpen detail.status
 TellsOpen (outcomes.Gaps gaps coded) = (coded ≡ true) × HasGap gaps
+TellsOpen (outcomes.Missed r missed coded) = (coded ≡ true) × HasMissed missed
 TellsOpen (outcomes.Ran recalls coded) = (coded ≡ true) × (recall : StartedRecall) × Contains recalls.items recall × (recall.ended ≡ false)
 TellsOpen (outcomes.Audited recalls coded) =
     ((audited : AuditedRecall) → Contains recalls.items audited → IsWrong audited → ⊥)
@@ -56,8 +66,8 @@ TellsOpen other = ⊥
 
 -- ---- the laws
 
--- Each status tells just that: 1 what was refused, 4 a discrepancy, 5 an open recall, a gap or a run withheld where that was asked for. There are no others but
--- 0, which is left for all that went well.
+-- Each status tells just that: 1 what was refused, 4 a discrepancy, 5 an open recall, a gap, something that a recall misses and none holds, or a run withheld,
+-- where that was asked for. There are no others but 0, which is left for all that went well.
 pub record StatusesTell (o : Outcome) : Type 0 where
   pub refused : (outcome_status o ≡ 1) ↔ IsRefused o
   pub amiss : (outcome_status o ≡ 4) ↔ IsAmiss o

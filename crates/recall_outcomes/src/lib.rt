@@ -16,5 +16,6 @@ pub use causes::{Cause, Failure};
 pub use faults::Fault;
 pub use notes::{AuditNotes, Knower, Knowers, MissedItems, Notes, RunNotes, Stop, StopCause};
 pub use outcomes::{
-    AuditedRecall, CommandRefusal, FoundGaps, Outcome, Output, SiteCoverage, StartedRecall, Ways,
+    AuditedRecall, CommandRefusal, FoundGaps, MissedPair, MissedReach, Outcome, Output,
+    SiteCoverage, StartedRecall, Ways,
 };

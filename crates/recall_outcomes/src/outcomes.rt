@@ -2,18 +2,19 @@
 
 ghost use Rattle.std.specs.Prelude.{◌≡◌};
 ghost use Rattle.std.specs.List.{list_any};
-ghost use Rattle.recall_outcomes.specs.Statuses.{audit_status, has_gaps, is_amiss, is_open, is_unended, is_unjudged, outcome_status};
+ghost use Rattle.recall_outcomes.specs.Statuses.{audit_status, has_gaps, has_missed, is_amiss, is_open, is_unended, is_unheld, is_unjudged, outcome_status};
 
 use crate::notes::Notes;
 use event_json::{PlainText, Sequence, SiteNo, Sites};
 use frame_core::RecallId;
-use gap_core::{GapLine, Gaps, UnseenItem};
+use gap_core::{GapLine, Gaps, UnseenItem, UntoldShipment};
 use item_spellings::ScanFault;
 use query_core::{KnownItem, RecallDetail, RecallStatus};
 use recall_text::RefusedLine;
 use report_core::{BackTrace, RecallReport, ShownEvents, StepEvents, Trace, Verdict};
 use site_core::{Effects, Refusal};
 use site_recovery::Misfit;
+use trace_core::Pair;
 
 /// Whether a path is shown in full or by its last step.
 #[derive(Clone, Copy, Debug, PartialEq, Eq)]
@@ -63,6 +64,23 @@ pub struct FoundGaps {
     pub used: Vec<GapLine>,
     /// The items that were shipped to a site of which no event names them.
     pub unseen: Vec<UnseenItem>,
+}
+
+/// A pair that a recall misses: its root reaches it by the packings that other sites captured alone.
+#[derive(Debug, Drop)]
+pub struct MissedPair {
+    pub pair: Pair,
+    /// A recall under which it is quarantined; `None` where there is none.
+    pub held: Option<RecallId>,
+}
+
+/// What a recall misses, since sites sent items on in something that others packed, and never captured that.
+#[derive(Debug, Drop)]
+pub struct MissedReach {
+    /// By site and item.
+    pub pairs: Vec<MissedPair>,
+    /// The shipments out of the traced sites that its report doesn't tell, by site, item and destination.
+    pub outside: Vec<UntoldShipment>,
 }
 
 /// What a command on the sites' files did, or why it was refused.
@@ -142,6 +160,13 @@ pub enum Outcome {
         /// Whether the program's status tells that there are any.
         coded: bool,
     },
+    /// What a recall misses.
+    Missed {
+        recall: RecallId,
+        missed: MissedReach,
+        /// Whether the program's status tells that something of it isn't quarantined, or left the traced sites.
+        coded: bool,
+    },
     /// It was refused, for these reasons, and nothing changed.
     Refused(Vec<CommandRefusal>),
 }
@@ -185,7 +210,7 @@ pub struct Output {
 
 impl Outcome {
     /// The status of a program that ends with it: 0 done, 1 refused, 4 a discrepancy, and where it was asked for, 5 for
-    /// a recall that is open, for gaps, or for a run that was withheld.
+    /// a recall that is open, for gaps, for what a recall misses and none holds, or for a run that was withheld.
     pub fn status(&self) -> u8
         ensures { result ≡ outcome_status self.now }
     {
@@ -239,6 +264,11 @@ impl Outcome {
             Outcome::Inconsistent(_) => 4,
             Outcome::Covered(_) => 0,
             Outcome::Gaps { gaps, coded } => { if *coded && has_gaps(gaps) { 5 } else { 0 } }
+            Outcome::Missed {
+                recall: _,
+                missed,
+                coded,
+            } => { if *coded && has_missed(missed) { 5 } else { 0 } }
             Outcome::Refused(_) => 1,
         }
     }
@@ -327,4 +357,25 @@ fn has_gaps(gaps: &FoundGaps) -> bool
     ensures { result ≡ has_gaps gaps.now }
 {
     !(gaps.packed.lines.is_empty() && gaps.used.is_empty() && gaps.unseen.is_empty())
+}
+
+/// Whether something that a recall misses is held by no recall, or left the traced sites.
+fn has_missed(missed: &MissedReach) -> bool
+    ensures { result ≡ has_missed missed.now }
+{
+    some_unheld(missed.pairs.as_slice()) || !missed.outside.is_empty()
+}
+
+/// Whether some pair is held by no recall.
+fn some_unheld(pairs: &[MissedPair]) -> bool
+    ensures { result ≡ list_any is_unheld pairs.now }
+{
+    pairs.iter().any(|missed| is_unheld(missed))
+}
+
+/// Whether a pair is quarantined under no recall.
+fn is_unheld(missed: &MissedPair) -> bool
+    ensures { result ≡ is_unheld missed.now }
+{
+    missed.held.is_none()
 }

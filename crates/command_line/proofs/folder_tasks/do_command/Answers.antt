@@ -15,6 +15,7 @@ use Rattle.folder_questions.specs.Contents.{AnswersContents}
 use Rattle.folder_questions.specs.Coverage.{AnswersCoverage}
 use Rattle.folder_questions.specs.DryStarts.{AnswersDryStart}
 use Rattle.folder_questions.specs.Gaps.{AnswersGaps}
+use Rattle.folder_questions.specs.Missed.{AnswersMissed}
 use Rattle.folder_questions.specs.Reports.{AnswersReport}
 use Rattle.folder_questions.specs.SiteItems.{AnswersItems}
 use Rattle.folder_questions.specs.Standings.{AnswersRecall}
@@ -149,6 +150,16 @@ returns-in_ok-ask-in-Gaps-clause-led g c =
     (AsksAll {Q = ⊤} g.K.SiteKeeper.shown g.K.SiteKeeper.stored c.in-Gaps.folder.now (λ sites outcome. ⊥) (λ sites asked. ⊤) (λ asked rs outcome. AnswersGaps rs c.in-Gaps.coded outcome))
     c.args.files.now c.ask-in-Gaps.new.files c.in_ok-ask-in-Gaps.field-0 c.plain-in-Gaps.result c.plain-in-Gaps.ensures.sites c.plain-in-Gaps.ensures.outcome c.plain-in-Gaps.ensures.silent
     c.in_ok-ask-in-Gaps.ensures.answered)
+
+pub returns-in_ok-ask-in-Missed-clause-led : goal.returns-in_ok-ask-in-Missed-clause-led
+returns-in_ok-ask-in-Missed-clause-led g c =
+    let recall = c.in-Missed.recall.now in
+    rw c.in-Missed.is
+    (plainly_led g.F.Files.does
+    (AsksAll {Q = Recall} g.K.SiteKeeper.shown g.K.SiteKeeper.stored c.in-Missed.folder.now (λ sites outcome. RefusesRecall recall sites outcome) (λ sites r. AsksRecall recall sites r)
+    (λ r rs outcome. AnswersMissed rs r c.in-Missed.coded outcome))
+    c.args.files.now c.ask-in-Missed.new.files c.in_ok-ask-in-Missed.field-0 c.plain-in-Missed.result c.plain-in-Missed.ensures.sites c.plain-in-Missed.ensures.outcome c.plain-in-Missed.ensures.silent
+    c.in_ok-ask-in-Missed.ensures.answered)
 
 pub returns-in_ok-ask-in-Coverage-clause-led : goal.returns-in_ok-ask-in-Coverage-clause-led
 returns-in_ok-ask-in-Coverage-clause-led g c =
