@@ -7,7 +7,7 @@ pub(crate) const ABOUT: &str =
 /// The program's version, that of the sites' files which it makes, and the toolchain and the logic that it is proved
 /// with.
 pub(crate) const VERSION: &str =
-    "0.1.0 (site files of version 2, written for rattle-kit-13f logic dac8208d650f15bf)";
+    "0.2.0 (site files of version 2, written for rattle-kit-13f logic dac8208d650f15bf)";
 
 /// What is wrong where two forms are asked for.
 pub(crate) const TWO_FORMS: &str = "\
