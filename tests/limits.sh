@@ -1,7 +1,7 @@
 #!/usr/bin/env bash
 # Runs scripts at the limits of items, documents, lists of sites, lots of units and long lists, and compares each answer:
 # what a definition says by a number or a character is told here a second time, by each character and by the last case on
-# either side of each number.
+# either side of each number. Likewise it converts long lists and documents, and compares what each part has.
 # Run by hand, and by the gate on the program that it built. RECALL names another program. It takes a few seconds.
 # It ends with status 0 where all is as it should be.
 set -u
@@ -334,6 +334,151 @@ led 1 '"eventID":"e",' 'total 2 outside 0'
 led 1001 '"eventID":"e",' 'total 2 outside 0'
 led 1001 '"transformationID":"t",' 'total 2 outside 0'
 led 1001 '' 'total 2 outside 0'
+
+# What parts have: the events of each document that a conversion writes. An event by its identifier, the first item and the
+# length of each of its lists, its parent and its transformation; `alone` where the document is an event.
+
+# beside MEMBERS LIST COUNT: the document is an event with these members, and a list of so many items
+beside() {
+    printf '{%s,"%s":[%s]}' "$1" "$2" "$(items "$3")" >"$work/document"
+}
+
+# shapes LINE..: what the document is converted into, a line for each document
+shapes() {
+    "$recall" convert "$work/document" >"$work/converted" 2>"$work/told" || failed=1
+    python3 - "$work/converted" >"$work/printed" <<'PYTHON'
+import json
+import sys
+
+LISTS = ('epcList', 'childEPCs', 'inputEPCList', 'outputEPCList')
+
+
+def shape(event):
+    """An event in short."""
+    lists = [f'{event[name][0] if event[name] else "-"}+{len(event[name])}' for name in LISTS if name in event]
+    return ' '.join([event.get('eventID', '-'), *lists, event.get('parentID', '-'), event.get('transformationID', '-')])
+
+
+with open(sys.argv[1]) as lines:
+    for document in map(json.loads, lines):
+        if 'epcisBody' in document:
+            print(' | '.join(map(shape, document['epcisBody']['eventList'])))
+        else:
+            print('alone', shape(document))
+PYTHON
+    printf '%s\n' "$@" >"$work/wanted"
+    if ! diff -u --label 'as it should be' --label "the parts of $1" "$work/wanted" "$work/printed"; then
+        failed=1
+    fi
+    rows=$((rows + 1))
+}
+named='"type":"ObjectEvent","eventID":"e"'
+beside "$named" epcList 1000
+shapes 'alone e 1+1000 - -'
+beside "$named" epcList 1001
+shapes 'e#1 1+1000 - - | e#2 1001+1 - -'
+beside "$named" epcList 2000
+shapes 'e#1 1+1000 - - | e#2 1001+1000 - -'
+beside "$named" epcList 2001
+shapes 'e#1 1+1000 - - | e#2 1001+1000 - - | e#3 2001+1 - -'
+packed='"type":"AggregationEvent","parentID":"p"'
+beside "$packed" childEPCs 1000
+shapes 'alone - 1+1000 p -'
+beside "$packed" childEPCs 1001
+shapes '- 1+1000 p - | - 1001+1 p -'
+# Transformations: by the identifier that they have, by one that is made of the event's, and each part of one list with each of
+# the other.
+made="\"type\":\"TransformationEvent\",\"inputEPCList\":[$(items 1500)]"
+beside "$made,\"transformationID\":\"t\"" outputEPCList 2500
+shapes '- 1+1000 1+1000 - t | - 1001+500 1001+1000 - t | - -+0 2001+500 - t'
+beside "$made,\"eventID\":\"e\"" outputEPCList 2500
+shapes 'e#1 1+1000 1+1000 - e#made | e#2 1001+500 1001+1000 - e#made | e#3 -+0 2001+500 - e#made'
+beside "$made" outputEPCList 2500
+shapes '- 1+1000 1+1000 - - | - 1+1000 1001+1000 - - | - 1+1000 2001+500 - - | - 1001+500 1+1000 - - | - 1001+500 1001+1000 - - | - 1001+500 2001+500 - -'
+
+# What is parted, by what stands beside a list and beside a body, and by how many parts repeat lists.
+
+# letters COUNT: so many letters
+letters() {
+    printf "%$1s" '' | tr ' ' x
+}
+
+# counted WRITTEN EVENTS PARTED: the document is converted into so many documents and events, and so many events were parted
+counted() {
+    "$recall" convert "$work/document" >"$work/converted" 2>"$work/printed" || failed=1
+    echo "note: written $1 events $2 links 0 lots 0 derived 0 untied 0 parted $3 errors 0 left 0" >"$work/wanted"
+    if ! diff -u --label 'as it should be' --label "$2 events in $1 documents" "$work/wanted" "$work/printed"; then
+        failed=1
+    fi
+    rows=$((rows + 1))
+}
+
+# weighed LETTERS MEMBERS LIST COUNT: the document is an event with so many letters, these members and so many items
+weighed() {
+    printf '{"a":"%s",%s,"%s":[%s]}' "$(letters "$1")" "$2" "$3" "$(items "$4")" >"$work/document"
+}
+# 10,000 by weight stand beside the list in the first of each two rows: 18, 23 and 44 of them aren't letters.
+weighed 9982 '"type":"ObjectEvent"' epcList 1001
+counted 1 2 1
+weighed 9983 '"type":"ObjectEvent"' epcList 1001
+counted 1 1 0
+weighed 9983 '"type":"ObjectEvent"' epcList 1000
+counted 1 1 0
+weighed 9977 '"type":"AggregationEvent"' childEPCs 1001
+counted 1 2 1
+weighed 9978 '"type":"AggregationEvent"' childEPCs 1001
+counted 1 1 0
+made='"type":"TransformationEvent","transformationID":"t","inputEPCList":["i"]'
+weighed 9956 "$made" outputEPCList 1001
+counted 1 2 1
+weighed 9957 "$made" outputEPCList 1001
+counted 1 1 0
+# A transformation without an identifier has ten parts at most.
+made='"type":"TransformationEvent","inputEPCList"'
+beside "$made:[$(items 5000)]" outputEPCList 2000
+counted 1 10 1
+beside "$made:[$(items 5000)]" outputEPCList 2001
+counted 1 1 0
+beside "$made:[$(items 10000)]" outputEPCList 1
+counted 1 10 1
+beside "$made:[$(items 10001)]" outputEPCList 1
+counted 1 1 0
+beside "\"eventID\":\"e\",$made:[$(items 10001)]" outputEPCList 2000
+counted 1 11 1
+
+# several LETTERS ITEMS OTHERS: the document has so many letters beside its body, an event of so many items and so many others
+several() {
+    {
+        printf '{"type":"EPCISDocument","a":"%s","epcisBody":{"eventList":[' "$(letters "$1")"
+        printf '{"type":"ObjectEvent","epcList":[%s]}' "$(items "$2")"
+        printf '%.0s,{"type":"ObjectEvent"}' $(seq "$3")
+        printf ']}}'
+    } >"$work/document"
+}
+# 10,000 by weight stand beside the body in the first row: 20 of them aren't letters.
+several 9980 1 1000
+counted 2 1001 0
+several 9981 1 1000
+counted 1 1001 0
+several 9981 1 999
+counted 1 1000 0
+several 9981 1001 998
+counted 1 1000 1
+several 9981 1001 999
+counted 1 1000 0
+several 9980 1001 999
+counted 2 1001 1
+# Two events with long lists are parted together, or neither is.
+for much in '' "$(letters 10000)"; do
+    printf '{"type":"EPCISDocument","epcisBody":{"eventList":[{"type":"ObjectEvent","epcList":[%s]},{"type":"ObjectEvent","epcList":[%s],"a":"%s"}]}}' \
+        "$(items 1001)" "$(items 1001)" "$much" >"$work/document"
+    [ -z "$much" ] && counted 1 4 2 || counted 1 2 0
+done
+# A document of 2,500 events becomes three, each with what stands beside the body.
+held 2500 1
+counted 3 2500 0
+wc -l <"$work/converted" | grep -qx 3 || failed=1
+[ "$(grep -c '"a":"x"' "$work/converted")" = 3 ] || failed=1
 
 [ $failed -eq 0 ] && echo "$rows rows"
 exit $failed

@@ -1,42 +1,39 @@
 //! How often the parts of a transformation are looked at, which no program tells.
 
 use epc_core::Epc;
-use event_json::{Doc, SiteNo, Sites, read_document};
+use event_json::{SiteNo, Sites, read_document};
 use std::alloc::Global;
 use std::hash::RandomState;
 use std::test::Fail;
 use trace_core::Captured;
 
-/// The times of an event.
-const TIMES: &str = r#""eventTime":"2024-05-01T08:00:00Z","eventTimeZoneOffset":"+00:00""#;
-
-/// The number of site A.
-fn site() -> SiteNo {
-    SiteNo::of(0).unwrap()
+/// A document of 1,000 parts of transformation t, each with one item of its list of inputs, or of outputs, which the item
+/// is named by.
+fn parts(alloc: Global, list: &str) -> Result<String, Fail> {
+    let mut text = String::from_str(
+        alloc,
+        r#"{"type":"EPCISDocument","epcisBody":{"eventList":["#,
+    )?;
+    for item in 0..1000 {
+        let comma = if item == 0 { "" } else { "," };
+        let part = format!(in alloc;
+            r#"{comma}{{"type":"TransformationEvent","eventTime":"2024-05-01T08:00:00Z","eventTimeZoneOffset":"+00:00","transformationID":"t","{list}":["{list}{item}"]}}"#
+        )?;
+        text.push_str(part.as_str())?;
+    }
+    text.push_str("]}}")?;
+    Ok(text)
 }
 
-/// Site A, which captured nothing.
-fn fresh(alloc: Global, keys: RandomState) -> Captured {
-    Captured::new(alloc, keys, site())
-}
-
-/// Reads a document of one event.
-fn read(alloc: Global, event: &str) -> Result<Doc, Fail> {
-    Ok(read_document(alloc, event.as_bytes(), &Sites::new(alloc))?)
-}
-
-/// Captures an event.
-fn capture(alloc: Global, site: &mut Captured, event: &str) -> Result<(), Fail> {
-    site.add(read(alloc, event)?.events)?;
+/// Captures a document.
+fn capture(alloc: Global, site: &mut Captured, text: &str) -> Result<(), Fail> {
+    site.add(read_document(alloc, text.as_bytes(), &Sites::new(alloc))?.events)?;
     Ok(())
 }
 
-/// Captures a part of transformation t: an item of its list of inputs, or of outputs, which the item is named by.
-fn capture_part(alloc: Global, site: &mut Captured, list: &str, item: u64) -> Result<(), Fail> {
-    let part = format!(in alloc;
-        r#"{{"type":"TransformationEvent",{TIMES},"transformationID":"t","{list}":["{list}{item}"]}}"#
-    )?;
-    capture(alloc, site, part.as_str())
+/// Captures 1,000 parts of one input, or of one output.
+fn capture_parts(alloc: Global, site: &mut Captured, list: &str) -> Result<(), Fail> {
+    capture(alloc, site, parts(alloc, list)?.as_str())
 }
 
 /// Whether the spread of the first input has 1,001 items, found by 2,001 looks: one at each of them, and one at each
@@ -50,11 +47,9 @@ fn spreads_to_all_outputs(alloc: Global, site: &Captured) -> Result<bool, Fail> 
 /// Whether so it is at a site with a transformation that is reported in parts: 1,000 of one input, and 1,000 of one
 /// output.
 fn parts_are_looked_at_once(alloc: Global, keys: RandomState) -> Result<bool, Fail> {
-    let mut site = fresh(alloc, keys);
-    for item in 0..1000 {
-        capture_part(alloc, &mut site, "inputEPCList", item)?;
-        capture_part(alloc, &mut site, "outputEPCList", item)?;
-    }
+    let mut site = Captured::new(alloc, keys, SiteNo::of(0).unwrap());
+    capture_parts(alloc, &mut site, "inputEPCList")?;
+    capture_parts(alloc, &mut site, "outputEPCList")?;
     Ok(site.len() == 2000 && spreads_to_all_outputs(alloc, &site)?)
 }
 

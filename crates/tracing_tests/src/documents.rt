@@ -1,4 +1,0 @@
-//! Documents with answers that were written by hand.
-
-mod conversions;
-mod parts;
