@@ -23,9 +23,23 @@ meaning_of() {
     esac
 }
 
-# changes FILE SQL: sqlite3 changes rows or tables of a site's file. Its pages have no sums then, which sqlite3 would spoil.
+# changes FILE SQL: SQLite changes rows or tables of a site's file. Its pages have no sums then, which SQLite would spoil.
 changes() {
-    sqlite3 "$1" .dump | sqlite3 "$1.new" && mv "$1.new" "$1" && rm -f "$1-wal" "$1-shm" && sqlite3 "$1" "$2"
+    python3 - "$1" "$2" <<'PYTHON' && mv "$1.new" "$1" && rm -f "$1-wal" "$1-shm"
+import sqlite3
+import sys
+
+file, change = sys.argv[1:]
+new = sqlite3.connect(f'{file}.new', isolation_level=None)
+new.execute('attach ? as old', (file,))
+for kind, name, declared in new.execute('select type, name, sql from old.sqlite_schema where sql is not null order by rowid').fetchall():
+    new.execute(declared)
+    if kind == 'table':
+        new.execute(f'insert into main."{name}" select * from old."{name}"')
+new.execute('detach old')
+new.executescript(change)
+new.close()
+PYTHON
 }
 
 # explained COMMAND OUTPUT ERRORS: the error stream of a command that prints this and has these lines of a fault, or notes; of

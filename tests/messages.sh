@@ -1,7 +1,7 @@
 #!/usr/bin/env bash
 # Brings about the faults that the program tells by a line `file <path>: <what is known>`, and compares these lines and the sentence behind them: another
 # program has the file open, no permission, no space, a folder or a link in its place, a file that is cut, tables and rows
-# that are no site's; and stops of sites in a run, which it tells so, too. Those that take `sqlite3`, `strace` or another user are passed over where there is none, with a word.
+# that are no site's; and stops of sites in a run, which it tells so, too. Those that take `strace` or another user are passed over where there is none, with a word.
 # Run by hand, and by the gate on the program that it built. RECALL names another program. It ends with status 0 where all
 # is as it should be, and takes some seconds.
 set -u
@@ -144,25 +144,29 @@ faults Device 'at/plant.db: damaged' "$recall" audit at
 # spoilt NAME WHAT SQL: what is told of the plant's file once the text has changed it
 spoilt() {
     fresh
-    changes at/plant.db "$3" || complain "sqlite3: $3"
+    changes at/plant.db "$3" || complain "SQLite: $3"
     faults "$1" "at/plant.db: $2" "$recall" audit at
 }
-if command -v sqlite3 >/dev/null; then
-    spoilt Version 'version 7' 'update store set version = 7'
-    spoilt BadRow 'row 2 of the table event' 'update event set kind = 9 where no = 2'
-    spoilt NotAStore "t isn't of a site" 'create table t (a)'
-    spoilt NotAStore "i isn't of a site" 'create index i on event (id)'
-    spoilt NotAStore "v isn't of a site" 'create view v as select no from event'
-    # Names of strangers are one line, and move no cursor.
-    spoilt NotAStore 't\u{a}fault Read\u{1b}[2J\\\u{202e}\u{9b} isn'"'t of a site" "create table \"t"$'\nfault Read\e[2J\\\xe2\x80\xae\xc2\x9b'"\" (a)"
-    spoilt OtherSite 'the file of a\u{a}b' "update site set name = 'a' || char(10) || 'b' where no = (select me from store)"
-    spoilt NotAStore 'the table seen is missing' 'drop table seen'
-    spoilt NotAStore 'the table store has no row of the version of the tables' 'delete from store'
-    spoilt NotAStore 'a table is declared otherwise' 'drop table seen; create table seen (sender integer) strict'
-    spoilt NotAStore "a row breaks a rule of its table, or a declaration isn't read" 'delete from event where no = 1'
-else
-    echo "  sqlite3 isn't installed: no table and no row is changed"
-fi
+spoilt Version 'version 7' 'update store set version = 7'
+spoilt BadRow 'row 2 of the table event' 'update event set kind = 9 where no = 2'
+# An address with a gap before it, texts that are no key, no site's name and no UTF-8, a gap between parts, and a pack of a
+# shipment. Rows count by their keys.
+spoilt BadRow 'row 2 of the table address' 'update address set place = 1 where site = 1'
+spoilt BadRow 'row 10 of the table part' "update part set text = 'b' where event = 6 and role = 0"
+spoilt BadRow 'row 9 of the table part' "update part set text = 'C' where event = 5 and role = 1"
+spoilt BadRow 'row 11 of the table part' 'update part set place = 1 where event = 6 and role = 2'
+spoilt BadRow 'row 11 of the table part' "update part set text = cast(x'6fff' as text) where event = 6 and role = 2"
+spoilt BadRow 'row 2 of the table pack' 'insert into pack (event, action) values (6, 1)'
+spoilt NotAStore "t isn't of a site" 'create table t (a)'
+spoilt NotAStore "i isn't of a site" 'create index i on event (id)'
+spoilt NotAStore "v isn't of a site" 'create view v as select no from event'
+# Names of strangers are one line, and move no cursor.
+spoilt NotAStore 't\u{a}fault Read\u{1b}[2J\\\u{202e}\u{9b} isn'"'t of a site" "create table \"t"$'\nfault Read\e[2J\\\xe2\x80\xae\xc2\x9b'"\" (a)"
+spoilt OtherSite 'the file of a\u{a}b' "update site set name = 'a' || char(10) || 'b' where no = (select me from store)"
+spoilt NotAStore 'the table seen is missing' 'drop table seen'
+spoilt NotAStore 'the table store has no row of the version of the tables' 'delete from store'
+spoilt NotAStore 'a table is declared otherwise' 'drop table seen; create table seen (sender integer) strict'
+spoilt NotAStore "a row breaks a rule of its table, or a declaration isn't read" 'delete from event where no = 1'
 
 echo "what this user may not do"
 if [ "$(id -u)" != 0 ]; then

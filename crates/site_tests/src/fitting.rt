@@ -1,168 +1,19 @@
-//! The check of the records of three sites, by examples.
-mod conditions;
+//! For each condition of the check of all records three sites that break it alone, at another site than A. The ninth is
+//! broken only where the fourth or the sixth is, so the check never names it; 7 and 8 are of frames.
 
-ghost use Rattle.std.specs.Prelude.{◌<◌};
-
-use crate::numbers::site as site_of;
-use epc_core::Epc;
-use event_json::{Sequence, SiteNo, Sites};
-use frame_core::{Frame, MsgId, RecallId};
-use site_core::{SiteInput, SiteState};
+use crate::sites::At::{A, B, C};
+use crate::sites::Given::{Made, Recalled, Shipped, Signalled, Told};
+use crate::sites::{At, Given, after, joined, number};
+use site_core::SiteState;
 use site_recovery::{CheckFault, Misfit, are_all_sites, check_world};
 use std::alloc::Global;
 use std::hash::RandomState;
 use std::test::Fail;
 
-/// The times of an event.
-const TIMES: &str = "\"eventTime\":\"2024-05-01T08:00:00Z\",\"eventTimeZoneOffset\":\"+00:00\"";
-
-/// What a site was given.
-#[derive(Clone, Copy)]
-enum Given {
-    /// The item was made of the other one.
-    Made(&'static str, &'static str),
-    /// The item was shipped to the address.
-    Shipped(&'static str, &'static str),
-    /// A recall of the item.
-    Recalled(&'static str),
-    /// The first message of a site, which announces the item under the first recall of A.
-    Told(At, &'static str),
-    /// The signal of a site for the first message.
-    Signalled(At),
-}
-
-use Given::{Made, Recalled, Shipped, Signalled, Told};
-
-/// One of sites A, B and C.
-#[derive(Clone, Copy)]
-enum At {
-    A,
-    B,
-    C,
-}
-
-use At::{A, B, C};
-
-/// The place of a site.
-fn place(at: At) -> u64
-    ensures { result < 3 }
-{
-    match at {
-        A => 0,
-        B => 1,
-        C => 2,
-    }
-}
-
-/// The number of a site.
-fn number(at: At) -> SiteNo {
-    site_of(place(at))
-}
-
-/// The first message of a site.
-fn first_of(site: At) -> MsgId {
-    MsgId {
-        site: number(site),
-        number: 1,
-    }
-}
-
-/// A site with an address, as each of the others, which keeps nothing.
-fn empty(alloc: Global, keys: RandomState, me: At) -> Result<SiteState, Fail> {
-    let mut sites = Sites::new(alloc);
-    sites.add("A", &["a"])?;
-    sites.add("B", &["b"])?;
-    sites.add("C", &["c"])?;
-    let me = number(me);
-    if me.number() >= sites.len() {
-        return Err(Fail::new("no such site"));
-    }
-    Ok(SiteState::new(alloc, keys, sites, me))
-}
-
-/// What the site is given.
-fn input(alloc: Global, me: At, given: Given) -> Result<SiteInput, Fail> {
-    let document = match given {
-        Made(of, item) => format!(in alloc;
-            "{{\"type\":\"TransformationEvent\",{TIMES},\"inputEPCList\":[\"{of}\"],\"outputEPCList\":[\"{item}\"]}}"
-        )?,
-        Shipped(item, to) => format!(in alloc;
-            "{{\"type\":\"ObjectEvent\",{TIMES},\"action\":\"OBSERVE\",\"epcList\":[\"{item}\"],\"destinationList\":[{{\"destination\":\"{to}\"}}]}}"
-        )?,
-        Recalled(root) => return Ok(SiteInput::Start(Epc::read(alloc, root)?)),
-        Told(from, item) => {
-            return Ok(SiteInput::Deliver(Frame::Recall {
-                id: first_of(from),
-                dest: number(me),
-                recall: RecallId {
-                    site: number(A),
-                    number: 1,
-                },
-                item: Epc::read(alloc, item)?,
-            }));
-        }
-        Signalled(by) => {
-            return Ok(SiteInput::Deliver(Frame::Signal {
-                id: first_of(me),
-                by: number(by),
-            }));
-        }
-    };
-    Ok(SiteInput::Capture(Sequence::from_vec(document.into_bytes())))
-}
-
-/// A site once it was given all this, one after another.
-fn site(alloc: Global, keys: RandomState, me: At, given: &[Given]) -> Result<SiteState, Fail> {
-    let mut state = empty(alloc, keys, me)?;
-    for each in given {
-        state.apply(&input(alloc, me, *each)?)?;
-    }
-    Ok(state)
-}
-
-/// What the check says of these sites, None where they are consistent.
-fn says(alloc: Global, sites: &[SiteState]) -> Result<Option<Misfit>, Fail> {
-    let mut states = Vec::new(alloc);
-    for site in sites {
-        states.push(site)?;
-    }
-    if !are_all_sites(&states) {
-        return Err(Fail::new("these aren't all sites"));
-    }
-    match check_world(alloc, &states) {
-        Ok(()) => Ok(None),
-        Err(CheckFault::Misfit(misfit)) => Ok(Some(misfit)),
-        Err(CheckFault::NoMemory) => Err(Fail::new("memory ran out")),
-    }
-}
-
-/// The misfit of this condition at this site.
-fn misfit(condition: u64, at: At) -> Option<Misfit> {
-    Some(Misfit {
-        condition,
-        site: number(at),
-    })
-}
-
-/// Sites A, B and C, each of which was given this.
-fn three(alloc: Global, keys: RandomState, given: [&[Given]; 3]) -> Result<Vec<SiteState>, Fail> {
-    let mut sites = Vec::new(alloc);
-    add_all(alloc, keys, &mut sites, given)?;
-    Ok(sites)
-}
-
-/// Adds the three sites.
-fn add_all(
-    alloc: Global,
-    keys: RandomState,
-    sites: &mut Vec<SiteState>,
-    given: [&[Given]; 3],
-) -> Result<(), Fail> {
-    let [a, b, c] = given;
-    add(alloc, keys, sites, A, a)?;
-    add(alloc, keys, sites, B, b)?;
-    add(alloc, keys, sites, C, c)
-}
+/// What A, B and C were given, one behind the other, and the condition that B breaks. Where two lists are B's, it captured
+/// what it would of the first, and quarantined and sent what it would of the second, which isn't empty: it has seen no
+/// message, and has no parents and no recalls of its own, and no steps lead there.
+type Row<'a> = ([&'a [Given]; 4], u64);
 
 /// Adds a site that was given this.
 fn add(
@@ -172,45 +23,113 @@ fn add(
     me: At,
     given: &[Given],
 ) -> Result<(), Fail> {
-    sites.push(site(alloc, keys, me, given)?)?;
+    sites.push(after(alloc, keys, me, given)?)?;
     Ok(())
 }
 
-/// Whether the check of sites A, B and C, which were given this, says this; None where they are consistent.
-fn is_charged(
+/// Adds B.
+fn add_b(
     alloc: Global,
     keys: RandomState,
-    given: [&[Given]; 3],
-    wanted: Option<Misfit>,
-) -> Result<bool, Fail> {
-    let sites = three(alloc, keys, given)?;
-    Ok(says(alloc, &sites)? == wanted)
+    sites: &mut Vec<SiteState>,
+    captured: &[Given],
+    steps: &[Given],
+) -> Result<(), Fail> {
+    if steps.is_empty() {
+        return add(alloc, keys, sites, B, captured);
+    }
+    let one = after(alloc, keys, B, captured)?;
+    let other = after(alloc, keys, B, steps)?;
+    let next = (other.next_message(), other.next_recall());
+    match joined(alloc, &one, &other, true, B, next)? {
+        Some(state) => Ok(sites.push(state)?),
+        None => Err("no record".into()),
+    }
+}
+
+/// Adds A, B and C.
+fn add_all(
+    alloc: Global,
+    keys: RandomState,
+    sites: &mut Vec<SiteState>,
+    given: [&[Given]; 4],
+) -> Result<(), Fail> {
+    let [a, captured, steps, c] = given;
+    add(alloc, keys, sites, A, a)?;
+    add_b(alloc, keys, sites, captured, steps)?;
+    add(alloc, keys, sites, C, c)
+}
+
+/// Whether the check of these sites attributes this condition to B.
+fn charges_b(alloc: Global, sites: &[SiteState], condition: u64) -> bool {
+    let [a, b, c] = sites else {
+        return false;
+    };
+    let states = [a, b, c];
+    let misfit = Misfit {
+        condition,
+        site: number(B),
+    };
+    are_all_sites(&states) && check_world(alloc, &states) == Err(CheckFault::Misfit(misfit))
+}
+
+/// Whether it does for the sites of a row.
+fn is_charged(alloc: Global, keys: RandomState, row: &Row) -> Result<bool, Fail> {
+    let mut sites = Vec::new(alloc);
+    add_all(alloc, keys, &mut sites, row.0)?;
+    Ok(charges_b(alloc, &sites, row.1))
 }
 
 /// A made y of x, shipped it to B, and began to recall x.
-const BEGUN: [Given; 3] = [Made("x", "y"), Shipped("y", "b"), Recalled("x")];
+const BEGUN: [Given; 3] = [Made('x', 'y'), Shipped('y', 'b'), Recalled('x')];
 
 /// Then B's signal came, and the recall ended.
 const ENDED: [Given; 4] = [
-    Made("x", "y"),
-    Shipped("y", "b"),
-    Recalled("x"),
-    Signalled(B),
+    Made('x', 'y'),
+    Shipped('y', 'b'),
+    Recalled('x'),
+    Signalled(A, 1, B),
 ];
 
-/// Whether the sites are seen to be out of order, and two of three to be too few.
-fn sees_places(alloc: Global, keys: RandomState) -> Result<bool, Fail> {
-    let sites = three(alloc, keys, [&[], &[], &[]])?;
-    if sites.len() != 3 {
-        return Ok(false);
-    }
-    let (a, b, c) = (&sites[0], &sites[1], &sites[2]);
-    Ok(!are_all_sites(&[b, a, c]) && !are_all_sites(&[a, b]))
-}
-
 #[test]
-fn sites_out_of_order_are_seen(rt: HostRuntime) -> Result<(), Fail> {
+fn each_condition_is_charged_alone(rt: HostRuntime) -> Result<(), Fail> {
     let keys = RandomState::new(&rt)?;
-    assert!(rt; sees_places(rt.alloc(), keys)?);
+    let told = [Told(A, 1, B, 'y')];
+    let shipped = [Shipped('y', 'a')];
+    let back = [Shipped('y', 'a'), Told(A, 1, B, 'y')];
+    let other_root = [Shipped('w', 'c'), Recalled('w'), Signalled(A, 1, C)];
+    let taken = [
+        Made('x', 'y'),
+        Shipped('y', 'b'),
+        Recalled('x'),
+        Told(B, 1, A, 'y'),
+    ];
+    let rows: [Row; 7] = [
+        // What is made of a quarantined item isn't quarantined.
+        ([&ENDED, &[Made('y', 'z')], &told, &[]], 1),
+        // B was notified of nothing, though A shipped y to it.
+        ([&ENDED, &[], &[], &[]], 2),
+        // B holds y, which w doesn't lead to.
+        ([&other_root, &told, &[], &[Told(A, 1, C, 'w')]], 3),
+        // A message waits at a site that isn't engaged.
+        ([&BEGUN, &shipped, &back, &[]], 4),
+        // A's message to B is gone, though it is B's parent.
+        ([&ENDED, &back, &[], &[]], 5),
+        // B and C are each other's parents.
+        (
+            [
+                &BEGUN,
+                &[Shipped('y', 'c'), Told(C, 1, B, 'y')],
+                &[],
+                &[Shipped('y', 'b'), Told(B, 1, C, 'y')],
+            ],
+            6,
+        ),
+        // A has seen a message that B hasn't numbered.
+        ([&taken, &shipped, &[], &[]], 10),
+    ];
+    for row in &rows {
+        assert!(rt; is_charged(rt.alloc(), keys, row)?);
+    }
     Ok(())
 }

@@ -1,113 +1,63 @@
 //! Keepers that make no world of sites.
-use crate::numbers::site;
-use epc_core::Epc;
-use event_json::{SiteNo, Sites};
-use frame_core::{Frame, MsgId, RecallId};
-use keeper_core::{MemoryKeeper, SiteKeeper};
-use site_core::{SiteInput, SiteState};
+use crate::sites::At::{A, B, C};
+use crate::sites::Given::Told;
+use crate::sites::{At, Given, after, number};
+use keeper_core::MemoryKeeper;
 use site_recovery::Misfit;
-use std::alloc::{AllocError, Global};
+use std::alloc::Global;
 use std::hash::RandomState;
 use std::test::Fail;
 use world_core::{World, WorldFault};
 
-/// Site A.
-fn a() -> SiteNo {
-    site(0)
-}
-
-/// Site B.
-fn b() -> SiteNo {
-    site(1)
-}
-
-/// Recall 1 of site A.
-fn recall() -> RecallId {
-    RecallId {
-        site: a(),
-        number: 1,
-    }
-}
-
-/// An open keeper of the first or the second of two sites.
-fn keeper(alloc: Global, keys: RandomState, second: bool) -> Result<MemoryKeeper, Fail> {
-    let mut sites = Sites::new(alloc);
-    let a = sites.add("A", &["a"])?;
-    let b = sites.add("B", &["b"])?;
-    let me = if second { b } else { a };
-    Ok(MemoryKeeper::new(SiteState::new(alloc, keys, sites, me)))
-}
-
-/// Whether two keepers make no world for this reason, and are given back.
-fn are_refused(
+/// Adds a keeper of a site that was given this.
+fn add(
     alloc: Global,
-    first: MemoryKeeper,
-    second: MemoryKeeper,
-    wanted: WorldFault,
-) -> Result<bool, AllocError> {
-    let mut keepers = Vec::new(alloc);
-    keepers.push(first)?;
-    keepers.push(second)?;
+    keys: RandomState,
+    keepers: &mut Vec<MemoryKeeper>,
+    me: At,
+    given: &[Given],
+) -> Result<(), Fail> {
+    let state = after(alloc, keys, me, given)?;
+    Ok(keepers.push(MemoryKeeper::new(state))?)
+}
+
+/// Whether these keepers make no world for this reason, and are given back.
+fn are_refused(alloc: Global, keepers: Vec<MemoryKeeper>, wanted: WorldFault) -> bool {
+    let count = keepers.len();
     match World::new(alloc, keepers) {
-        Ok(_) => Ok(false),
-        Err(refused) => Ok(refused.fault == wanted && refused.keepers.len() == 2),
+        Ok(_) => false,
+        Err(refused) => refused.fault == wanted && refused.keepers.len() == count,
     }
 }
 
-/// Whether keepers of one site, or of sites out of order, make no world.
-fn sees_places(alloc: Global, keys: RandomState) -> Result<bool, Fail> {
-    let twice = WorldFault::OtherSites(1);
-    let swapped = WorldFault::OtherSites(0);
-    Ok(
-        are_refused(
-            alloc,
-            keeper(alloc, keys, false)?,
-            keeper(alloc, keys, false)?,
-            twice,
-        )? && are_refused(
-            alloc,
-            keeper(alloc, keys, true)?,
-            keeper(alloc, keys, false)?,
-            swapped,
-        )?,
-    )
+/// Whether keepers of these sites, of which the second was given this, make no world for this reason.
+fn is_refused(
+    alloc: Global,
+    keys: RandomState,
+    sites: [At; 3],
+    given: &[Given],
+    wanted: WorldFault,
+) -> Result<bool, Fail> {
+    let [first, second, third] = sites;
+    let mut keepers = Vec::new(alloc);
+    add(alloc, keys, &mut keepers, first, &[])?;
+    add(alloc, keys, &mut keepers, second, given)?;
+    add(alloc, keys, &mut keepers, third, &[])?;
+    Ok(are_refused(alloc, keepers, wanted))
 }
 
+/// Keepers of one site, keepers out of order, and one that was notified of a recall that A never began: the check names
+/// what doesn't fit.
 #[test]
-fn a_world_is_of_all_sites_in_order(rt: HostRuntime) -> Result<(), Fail> {
+fn keepers_that_make_no_world_are_handed_back(rt: HostRuntime) -> Result<(), Fail> {
     let keys = RandomState::new(&rt)?;
-    assert!(rt; sees_places(rt.alloc(), keys)?);
-    Ok(())
-}
-
-/// Site B, which was notified of a recall that A never began.
-fn told_of_nothing(alloc: Global, keys: RandomState) -> Result<MemoryKeeper, Fail> {
-    let mut told = keeper(alloc, keys, true)?;
-    told.apply(SiteInput::Deliver(Frame::Recall {
-        id: MsgId {
-            site: a(),
-            number: 1,
-        },
-        dest: b(),
-        recall: recall(),
-        item: Epc::read(alloc, "x")?,
-    }))?;
-    Ok(told)
-}
-
-/// Whether it makes no world with A: the check names what doesn't fit.
-fn sees_misfit(alloc: Global, keys: RandomState) -> Result<bool, Fail> {
     let misfit = WorldFault::Misfit(Misfit {
         condition: 3,
-        site: b(),
+        site: number(B),
     });
-    let told = told_of_nothing(alloc, keys)?;
-    Ok(are_refused(alloc, keeper(alloc, keys, false)?, told, misfit)?)
-}
-
-#[test]
-fn keepers_that_do_not_fit_are_handed_back(rt: HostRuntime) -> Result<(), Fail> {
-    let keys = RandomState::new(&rt)?;
-    assert!(rt; sees_misfit(rt.alloc(), keys)?);
+    let told = [Told(A, 1, B, 'x')];
+    assert!(rt; is_refused(rt.alloc(), keys, [A, A, C], &[], WorldFault::OtherSites(1))?);
+    assert!(rt; is_refused(rt.alloc(), keys, [B, A, C], &[], WorldFault::OtherSites(0))?);
+    assert!(rt; is_refused(rt.alloc(), keys, [A, B, C], &told, misfit)?);
     Ok(())
 }

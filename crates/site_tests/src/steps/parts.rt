@@ -1,6 +1,5 @@
-//! Parts of what a site keeps, and of what it returns.
-use super::Want::Blocked;
-use super::{is_refusal, recall};
+//! Parts of what a site keeps, and of what it returns, which no step makes or copies so.
+use crate::sites::{item, recall};
 use epc_core::Epc;
 use site_core::{Quarantine, Refusal};
 use std::alloc::{AllocError, Global};
@@ -16,7 +15,7 @@ fn holds_both(alloc: Global, items: &[Epc; 2]) -> Result<bool, AllocError> {
 
 #[test]
 fn items_are_held_together(rt: HostRuntime) -> Result<(), Fail> {
-    let items = [Epc::read(rt.alloc(), "x")?, Epc::read(rt.alloc(), "y")?];
+    let items = [item(rt.alloc(), 'x')?, item(rt.alloc(), 'y')?];
     assert!(rt; holds_both(rt.alloc(), &items)?);
     Ok(())
 }
@@ -25,9 +24,9 @@ fn items_are_held_together(rt: HostRuntime) -> Result<(), Fail> {
 fn a_refusal_is_copied(rt: HostRuntime) -> Result<(), Fail> {
     let refusal = Refusal::Blocked {
         recall: recall(),
-        item: Epc::read(rt.alloc(), "y")?,
+        item: item(rt.alloc(), 'y')?,
         event: 1,
     };
-    assert!(rt; is_refusal(&refusal.copy(rt.alloc())?, Blocked));
+    assert!(rt; refusal.copy(rt.alloc())? == refusal);
     Ok(())
 }

@@ -1,8 +1,9 @@
 //! Frames that no site sends.
 use super::Want::{Done, NotMine};
-use super::{Short, fresh, give, message, recalls};
-use crate::numbers::site;
-use frame_core::MsgId;
+use super::{FRESH, give, started};
+use crate::sites::At::{A, B};
+use crate::sites::Given::{Made, Recalled, Shipped, Signalled, Told};
+use crate::sites::fresh;
 use site_core::{Effects, SiteState};
 use std::alloc::Global;
 use std::hash::RandomState;
@@ -11,26 +12,22 @@ use std::test::Fail;
 /// The last number of a message.
 const LAST: u64 = 1 << 62;
 
-// Not for A are a message for B, one of A itself, a signal by A, and numbers below the first and past the last.
+/// Site A makes y of x, ships y to B, and starts a recall of x. Not for A are a message for B, one of A itself, a signal by
+/// A, and numbers below the first and past the last.
 fn refuses(alloc: Global, a: &mut SiteState) -> Result<bool, Fail> {
-    let past = MsgId {
-        site: site(1),
-        number: LAST + 1,
-    };
-    let none = MsgId {
-        site: site(1),
-        number: 0,
-    };
     let rows = [
-        (Short::Told(message(1), site(1)), NotMine),
-        (Short::Signal(message(1), site(0)), NotMine),
-        (Short::Told(message(1), site(0)), NotMine),
-        (Short::Told(past, site(0)), NotMine),
-        (Short::Told(none, site(0)), NotMine),
-        (Short::Signal(message(0), site(1)), NotMine),
-        (Short::Signal(message(LAST + 1), site(1)), NotMine),
-        (Short::Signal(message(LAST), site(1)), Done(Effects::Stale)),
-        (Short::Signal(message(2), site(0)), Done(Effects::Stale)),
+        (Made('x', 'y'), FRESH),
+        (Shipped('y', 'b'), FRESH),
+        (Recalled('x'), started(2, 1)),
+        (Told(A, 1, B, 'y'), NotMine),
+        (Signalled(A, 1, A), NotMine),
+        (Told(A, 1, A, 'y'), NotMine),
+        (Told(B, LAST + 1, A, 'y'), NotMine),
+        (Told(B, 0, A, 'y'), NotMine),
+        (Signalled(A, 0, B), NotMine),
+        (Signalled(A, LAST + 1, B), NotMine),
+        (Signalled(A, LAST, B), Done(Effects::Stale)),
+        (Signalled(A, 2, A), Done(Effects::Stale)),
     ];
     give(alloc, a, &rows)
 }
@@ -38,8 +35,7 @@ fn refuses(alloc: Global, a: &mut SiteState) -> Result<bool, Fail> {
 #[test]
 fn frames_of_others_are_refused(rt: HostRuntime) -> Result<(), Fail> {
     let keys = RandomState::new(&rt)?;
-    let mut a = fresh(rt.alloc(), keys, site(0))?;
-    assert!(rt; recalls(rt.alloc(), &mut a)?);
+    let mut a = fresh(rt.alloc(), keys, A)?;
     assert!(rt; refuses(rt.alloc(), &mut a)?);
     Ok(())
 }

@@ -1,13 +1,11 @@
 //! A document and steps of which one growth may be refused: `tests/hostile.sh` refuses each one in turn. Where that is while an
 //! input is made the test fails for want of memory, and else it passes. With ample memory nothing is done again.
 use super::Want::Done;
-use super::{
-    FRESH, ID, Row, Short, TAKEN, TIMES, Want, fresh, input, is_answer, message, recall,
-    three_sites,
-};
-use crate::numbers::site;
+use super::{FRESH, Row, Want, is_answer, started, taken};
+use crate::sites::At::{A, B};
+use crate::sites::Given::{Made, Recalled, Shipped, Signalled, Told};
+use crate::sites::{TIMES, fresh, input, recall};
 use event_json::{ReadFault, Sites, read_document};
-use frame_core::MsgId;
 use site_core::{Effects, Refusal, SiteInput, SiteState};
 use std::alloc::Global;
 use std::hash::RandomState;
@@ -23,9 +21,10 @@ fn is_read(alloc: Global, document: &str, sites: &Sites) -> bool {
 
 #[test]
 fn a_document_is_read_where_growth_is_refused(rt: HostRuntime) -> Result<(), Fail> {
-    let sites = three_sites(rt.alloc())?;
+    let mut sites = Sites::new(rt.alloc());
+    sites.add("B", &["b"])?;
     let document = format!(in rt.alloc();
-        "{{\"type\":\"EPCISDocument\",\"epcisBody\":{{\"eventList\":[{{\"type\":\"TransformationEvent\",{TIMES},{ID}\"inputEPCList\":[\"x\"],\"outputEPCList\":[\"y\"]}},{{\"type\":\"ObjectEvent\",{TIMES},\"action\":\"OBSERVE\",\"epcList\":[\"y\"],\"destinationList\":[{{\"destination\":\"b\"}}]}}]}}}}"
+        "{{\"type\":\"EPCISDocument\",\"epcisBody\":{{\"eventList\":[{{\"type\":\"TransformationEvent\",{TIMES},\"eventID\":\"e\",\"inputEPCList\":[\"x\"],\"outputEPCList\":[\"y\"]}},{{\"type\":\"ObjectEvent\",{TIMES},\"action\":\"OBSERVE\",\"epcList\":[\"y\"],\"destinationList\":[{{\"destination\":\"b\"}}]}}]}}}}"
     )?;
     assert!(rt; is_read(rt.alloc(), document.as_str(), &sites));
     Ok(())
@@ -50,51 +49,25 @@ fn give_again(alloc: Global, state: &mut SiteState, rows: &[Row]) -> Result<bool
     Ok(true)
 }
 
-/// Site A makes y of x, ships y to B, starts a recall of x, takes a message of B with y, and the signal that ends its own.
+/// Site A makes y of x, ships y to B, starts a recall of x, takes a message of B with y, twice, and the signal that ends its
+/// own; then a message of B with z.
 fn steps(alloc: Global, a: &mut SiteState) -> Result<bool, Fail> {
-    let started = Effects::Started {
-        recall: recall(),
-        quarantined: 2,
-        numbered: 1,
-        ended: false,
-    };
-    let told = MsgId {
-        site: site(1),
-        number: 1,
-    };
-    let repeated = Effects::Received {
-        quarantined: 0,
-        numbered: 0,
-        owed: false,
-    };
     let rows = [
-        (Short::Made('x', 'y'), Done(FRESH)),
-        (Short::Shipped('y', 'b', true), Done(FRESH)),
-        (Short::Start('x'), Done(started)),
-        (Short::Told(told, site(0)), Done(repeated)),
-        (
-            Short::Signal(message(1), site(1)),
-            Done(Effects::Ended(recall())),
-        ),
+        (Made('x', 'y'), FRESH),
+        (Shipped('y', 'b'), FRESH),
+        (Recalled('x'), started(2, 1)),
+        (Told(B, 1, A, 'y'), taken(0, 0, false)),
+        (Told(B, 1, A, 'y'), Done(Effects::Repeat)),
+        (Signalled(A, 1, B), Done(Effects::Ended(recall()))),
+        (Told(B, 2, A, 'z'), taken(1, 0, false)),
     ];
     give_again(alloc, a, &rows)
-}
-
-/// B takes the message of A twice.
-fn takes(alloc: Global, b: &mut SiteState) -> Result<bool, Fail> {
-    let rows = [
-        (Short::Told(message(1), site(1)), Done(TAKEN)),
-        (Short::Told(message(1), site(1)), Done(Effects::Repeat)),
-    ];
-    give_again(alloc, b, &rows)
 }
 
 #[test]
 fn steps_are_taken_where_growth_is_refused(rt: HostRuntime) -> Result<(), Fail> {
     let keys = RandomState::new(&rt)?;
-    let mut a = fresh(rt.alloc(), keys, site(0))?;
+    let mut a = fresh(rt.alloc(), keys, A)?;
     assert!(rt; steps(rt.alloc(), &mut a)?);
-    let mut b = fresh(rt.alloc(), keys, site(1))?;
-    assert!(rt; takes(rt.alloc(), &mut b)?);
     Ok(())
 }
