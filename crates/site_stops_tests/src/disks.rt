@@ -8,9 +8,9 @@ use std::alloc::Global;
 pub type Frail = Weak<Memory>;
 
 /// Where a disk fails.
-#[derive(Drop)]
+#[derive(Clone, Copy)]
 pub struct Blow {
-    /// Which of the four files: the log of A and its database, and then those of B. Another number is none.
+    /// Which of the two files: 0 the log, 1 the database. Another number is none.
     pub file: u64,
     /// After so many of its calls.
     pub calls: u64,
@@ -23,45 +23,46 @@ pub const FOR_GOOD: u64 = u64::MAX;
 
 /// No disk fails.
 pub const NONE: Blow = Blow {
-    file: 4,
+    file: 2,
     calls: 0,
     fails: 0,
 };
 
-/// A file of A or B, on the disk that fails or on another one.
-fn on_disk(memory: Memory, blow: &Blow, file: u64) -> Frail {
+/// A file on the disk that fails or on another one.
+fn on_disk(memory: Memory, blow: Blow, file: u64) -> Frail {
     let fails = if blow.file == file { blow.fails } else { 0 };
     Weak::new(memory, blow.calls, fails)
 }
 
-/// The empty files of A, or of B.
-pub fn files(alloc: Global, blow: &Blow, is_second: bool) -> Files<Frail> {
-    let (log, db) = if is_second { (2, 3) } else { (0, 1) };
+/// A log and a database.
+fn both(log: Memory, db: Memory, blow: Blow) -> Files<Frail> {
     Files {
-        log: on_disk(Memory::new(alloc), blow, log),
-        db: on_disk(Memory::new(alloc), blow, db),
+        log: on_disk(log, blow, 0),
+        db: on_disk(db, blow, 1),
     }
 }
 
-/// A file of these bytes.
-fn holding(alloc: Global, bytes: &[u8]) -> Memory {
+/// Empty files.
+pub fn empty(alloc: Global, blow: Blow) -> Files<Frail> {
+    both(Memory::new(alloc), Memory::new(alloc), blow)
+}
+
+/// A file of the bytes of this one.
+fn copy(alloc: Global, file: &Frail) -> Memory {
     let mut memory = Memory::new(alloc);
-    let _ = memory.write_at(0, bytes);
+    let _ = memory.write_at(0, file.inner().bytes());
     let _ = memory.sync();
     memory
 }
 
-/// Files with the bytes of these, as if a process had written and synced them: those of A, where a disk fails.
-pub fn copies(alloc: Global, files: &Files<Frail>, blow: &Blow) -> Files<Frail> {
-    Files {
-        log: on_disk(holding(alloc, files.log.inner().bytes()), blow, 0),
-        db: on_disk(holding(alloc, files.db.inner().bytes()), blow, 1),
-    }
+/// Files with the bytes of these, as if a process had written and synced them.
+pub fn copies(alloc: Global, files: &Files<Frail>, blow: Blow) -> Files<Frail> {
+    both(copy(alloc, &files.log), copy(alloc, &files.db), blow)
 }
 
 /// What the next process finds where this one ended: all that was written. It fails no more.
 pub fn written(alloc: Global, files: &Files<Frail>) -> Files<Frail> {
-    copies(alloc, files, &NONE)
+    copies(alloc, files, NONE)
 }
 
 /// What the next process finds where the machine stopped: what was synced. It fails no more.
@@ -69,15 +70,12 @@ pub fn synced(alloc: Global, files: Files<Frail>) -> Files<Frail> {
     let mut files = files;
     files.log.crash();
     files.db.crash();
-    copies(alloc, &files, &NONE)
+    copies(alloc, &files, NONE)
 }
 
 /// The synced database beside an empty log, which is all there is of a site that was closed.
 pub fn without_log(alloc: Global, files: Files<Frail>) -> Files<Frail> {
     let mut files = files;
     files.db.crash();
-    Files {
-        log: on_disk(Memory::new(alloc), &NONE, 0),
-        db: on_disk(holding(alloc, files.db.inner().bytes()), &NONE, 1),
-    }
+    both(Memory::new(alloc), copy(alloc, &files.db), NONE)
 }
