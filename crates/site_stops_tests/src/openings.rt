@@ -2,7 +2,7 @@
 //! weren't closed, and of what a failed step left. Files of the first version are tried by `tests/calls.sh`.
 use crate::disks::{Blow, FOR_GOOD, Frail, NONE, copies, synced, without_log, written};
 use crate::sites::{Keeping, Site, begun, files_of, opened};
-use crate::steps::{Outcome, Sizes, WITH_OPENINGS, shown, steps_done};
+use crate::steps::{Sizes, WITH_OPENINGS, shown, steps_done};
 use crate::stops::Ended::{self, Spoilt, Stopped, Unclosed, Unmade, Whole, Wrong};
 use crate::stops::keeping;
 use sqlite::Files;

@@ -9,11 +9,11 @@ ghost use Rattle.site_threads.specs.declared.lists.RunLog.{RunLog};
 ghost use Rattle.site_threads_tests.specs.Serving.{Settles};
 
 use crate::running::fixtures::{desks, keepers};
-use crate::running::gates::{in_lockstep, without_b, without_b_and_d};
+use crate::running::gates::{in_lockstep, without_b_and_d};
+use crate::turns::{has_ended, held_under};
 use event_json::SiteNo;
 use frame_core::RecallId;
 use keeper_core::{MemoryKeeper, SiteKeeper};
-use report_core::{Verdict, audit};
 use site_core::SiteState;
 use site_recovery::{are_all_sites, check_world};
 use site_threads::{
@@ -38,27 +38,22 @@ fn records(alloc: Global, keepers: &[MemoryKeeper]) -> Result<Vec<&SiteState>, A
     Ok(records)
 }
 
-/// How many pairs are quarantined under the first recall that the site of this place began, where they are just those
-/// in reach.
-fn equal_pairs(alloc: Global, records: &[&SiteState], place: u64) -> Option<u64> {
+/// How many pairs are quarantined under the first recall that the site of this place began, once it has ended.
+fn ended_pairs(keepers: &[MemoryKeeper], place: u64) -> Option<usize> {
     let site = SiteNo::of(place)?;
-    if !are_all_sites(records) {
+    if !has_ended(keepers.get(place as usize)?.view()) {
         return None;
     }
-    match audit(alloc, records, RecallId { site, number: 1 }) {
-        Ok(Verdict::Equal(count)) => Some(count),
-        _ => None,
+    let mut pairs: usize = 0;
+    for keeper in keepers {
+        pairs = pairs.saturating_add(held_under(keeper.view(), RecallId { site, number: 1 }));
     }
+    Some(pairs)
 }
 
-/// Whether the recalls of x and w have ended as they should.
-fn are_ended(alloc: Global, keepers: &[MemoryKeeper]) -> bool {
-    match records(alloc, keepers) {
-        Ok(records) => {
-            equal_pairs(alloc, &records, 0) == Some(4) && equal_pairs(alloc, &records, 3) == Some(2)
-        }
-        Err(_) => false,
-    }
+/// Whether the recalls of x and w have ended as they should: x is quarantined at each site, and w at D and at A.
+fn are_ended(keepers: &[MemoryKeeper]) -> bool {
+    ended_pairs(keepers, 0) == Some(4) && ended_pairs(keepers, 3) == Some(2)
 }
 
 /// Whether the records of four keepers are consistent.
@@ -129,7 +124,7 @@ fn wrong_in(
     let Gathered { keepers, lists, .. } = gathered;
     let made = made(lists.as_slice(), 2_000);
     let settled = are_settled(desks, lists, &[2, 1, 1, 2]);
-    if !are_ended(alloc, &keepers) {
+    if !are_ended(&keepers) {
         Some("the recalls")
     } else if !confirmed {
         Some("the receipt of B's capture")
@@ -188,28 +183,6 @@ fn four_sites_in_lockstep_end_their_recalls(rt: HostRuntime) -> Result<(), Fail>
     Ok(())
 }
 
-/// Whether a run ended since B's gate gave up, and its sites are consistent.
-fn gave_up(alloc: Global, run: Result<Gathered<MemoryKeeper>, GatherFault<MemoryKeeper>>) -> bool {
-    match run {
-        Ok(_) => false,
-        Err(fault) => {
-            let GatherFault { keepers, cause, .. } = fault;
-            match cause {
-                GatherCause::GaveUp(site) => site.number() == 1 && fit(alloc, &keepers),
-                _ => false,
-            }
-        }
-    }
-}
-
-#[test]
-fn a_gate_that_gives_up_leaves_sites_that_fit(rt: HostRuntime) -> Result<(), Fail> {
-    let keys = RandomState::new(&rt)?;
-    let (run, _desks) = ran(&rt, rt.alloc(), keys, without_b(rt.alloc())?, 20)?;
-    assert!(rt; gave_up(rt.alloc(), run));
-    Ok(())
-}
-
 /// The first receipt of B's desk, once the run has ended.
 fn first_of_b(rt: &impl Wait, desks: Vec<Desk>) -> Option<Receipt>
     requires { All IsDesk desks.items }
@@ -247,13 +220,16 @@ fn is_listed(lists: &[RunLog], receipt: &Receipt) -> bool {
     }
 }
 
+/// The sites that are left fit together.
 #[test]
 fn of_two_gates_that_give_up_the_least_site_is_named(rt: HostRuntime) -> Result<(), Fail> {
     let keys = RandomState::new(&rt)?;
     let (run, desks) = ran(&rt, rt.alloc(), keys, without_b_and_d(rt.alloc())?, 20)?;
     let right = match (run, first_of_b(&rt, desks)) {
         (Err(fault), Some(receipt)) => {
-            names_b(&fault) && is_listed(fault.lists.as_slice(), &receipt)
+            names_b(&fault)
+                && is_listed(fault.lists.as_slice(), &receipt)
+                && fit(rt.alloc(), fault.keepers.as_slice())
         }
         _ => false,
     };

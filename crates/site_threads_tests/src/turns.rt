@@ -9,7 +9,8 @@ ghost use Rattle.site_threads.specs.Running.{marks_in};
 ghost use Rattle.site_threads.specs.Starting.{IsLastMarked};
 ghost use Rattle.site_threads.specs.Ends.{IsDesk, IsOut};
 
-use crate::turns::fixtures::{begun, both_ways, capture, fresh, start};
+use crate::turns::fixtures::{begun, both_ways, fresh, start};
+use frame_core::RecallId;
 use keeper_core::{MemoryKeeper, SiteKeeper};
 use site_core::SiteState;
 use site_recovery::{are_all_sites, check_world};
@@ -90,8 +91,19 @@ fn begin<'w>(
     Ok(RunningSite::new(alloc, wire, keeper, FreeGate, out, seat, me))
 }
 
+/// How many items the site holds under a recall.
+pub fn held_under(state: Option<&SiteState>, recall: RecallId) -> usize {
+    match state {
+        Some(state) => match state.quarantine().under(recall) {
+            Some(items) => items.len(),
+            None => 0,
+        },
+        None => 0,
+    }
+}
+
 /// Whether a recall of the site's own has ended.
-fn has_ended(state: Option<&SiteState>) -> bool {
+pub fn has_ended(state: Option<&SiteState>) -> bool {
     let Some(state) = state else {
         return false;
     };
@@ -101,30 +113,6 @@ fn has_ended(state: Option<&SiteState>) -> bool {
         }
     }
     false
-}
-
-/// The first site captures, starts a recall and announces it; the second takes the message, and signals it; the
-/// signal ends the recall.
-fn exchange<K: SiteKeeper, G: Gate>(
-    alloc: Global,
-    one: RunningSite<'_, K, G>,
-    two: RunningSite<'_, K, G>,
-) -> bool
-    requires { (marks_in one.seat.logs ≡ 0) × (marks_in two.seat.logs ≡ 0) }
-{
-    let mut one = one;
-    let mut two = two;
-    let captured = turn_once(&mut one, capture(alloc));
-    let started = turn_once(&mut one, start(alloc));
-    let taken = turn_once(&mut two, None);
-    let signalled = turn_once(&mut one, None);
-    let (keeper, _, list) = one.finish();
-    let counts = captured.posted == 0 && started.posted == 1 && taken.posted == 1;
-    let came = taken.applied == 1 && signalled.applied == 1;
-    let lost = taken.lost > 0 || signalled.lost > 0;
-    let uncopied = started.uncopied > 0 || taken.uncopied > 0;
-    let done = list.entries.len() == 3 && has_ended(keeper.view());
-    counts && came && !lost && !uncopied && done
 }
 
 /// A turn of the one site, and then one of the other. Whether so many frames were taken and posted in each, and none
@@ -209,16 +197,6 @@ fn stands_beside<K: SiteKeeper, G: Gate>(one: RunningSite<'_, K, G>) -> bool
 }
 
 /// Makes the turns over a wire of their own.
-fn by_turns(alloc: Global, first: SiteState, second: SiteState) -> Result<bool, Fail> {
-    let b = second.me();
-    let (wire, seat) = between(alloc, &first, &second)?;
-    let (mine, theirs) = wire.split(seat, b);
-    let one = begin(alloc, &wire, mine, first)?;
-    let two = begin(alloc, &wire, theirs, second)?;
-    Ok(exchange(alloc, one, two))
-}
-
-/// Likewise, of two messages.
 fn by_rounds(alloc: Global, first: SiteState, second: SiteState) -> Result<bool, Fail> {
     let b = second.me();
     let (wire, seat) = between(alloc, &first, &second)?;
@@ -243,15 +221,6 @@ fn a_frame_that_nobody_takes_is_posted_once(rt: HostRuntime) -> Result<(), Fail>
     let first = begun(rt.alloc(), keys)?;
     let second = fresh(rt.alloc(), keys, true)?;
     assert!(rt; by_one(rt.alloc(), first, second)?);
-    Ok(())
-}
-
-#[test]
-fn a_recall_ends_by_turns(rt: HostRuntime) -> Result<(), Fail> {
-    let keys = RandomState::new(&rt)?;
-    let first = fresh(rt.alloc(), keys, false)?;
-    let second = fresh(rt.alloc(), keys, true)?;
-    assert!(rt; by_turns(rt.alloc(), first, second)?);
     Ok(())
 }
 

@@ -78,9 +78,3 @@ pub fn without_b_and_d(alloc: Global) -> Result<Vec<First>, Fail> {
         [first(u64::MAX), first(3), first(u64::MAX), first(1)],
     )?)
 }
-
-/// Gates that let each turn begin, but for B's at its fourth.
-pub fn without_b(alloc: Global) -> Result<Vec<First>, Fail> {
-    let every = || First { turns: u64::MAX };
-    Ok(Vec::from_array(alloc, [every(), First { turns: 3 }, every(), every()])?)
-}

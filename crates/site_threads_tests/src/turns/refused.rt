@@ -5,10 +5,9 @@ ghost use Rattle.std.specs.Prelude.{◌≡◌, ◌≤◌, ◌+◌};
 ghost use Rattle.site_threads.specs.Running.{marks_in};
 
 use crate::turns::fixtures::{capture, fresh, start};
-use crate::turns::{begin, between, has_ended};
+use crate::turns::{begin, between, has_ended, held_under};
 use frame_core::RecallId;
 use keeper_core::SiteKeeper;
-use report_core::{Verdict, audit};
 use site_core::SiteState;
 use site_recovery::{are_all_sites, check_world};
 use site_threads::{Gate, Job, RunningSite, TurnCause, TurnFault};
@@ -55,10 +54,7 @@ fn is_exact(alloc: Global, first: &SiteState, second: &SiteState) -> Option<bool
         site: first.me(),
         number: 1,
     };
-    match audit(alloc, &states, recall).ok()? {
-        Verdict::Equal(pairs) => Some(pairs == 3),
-        _ => Some(false),
-    }
+    Some(held_under(Some(first), recall) == 2 && held_under(Some(second), recall) == 1)
 }
 
 /// Likewise, of records that may be closed, tried again where memory ran out.
