@@ -245,6 +245,12 @@ done
 damaged
 "$recall" report damaged 'dairy#1' >/dev/full 2>err
 [ $? = 3 ] && [ "$(cat err)" = "$(explained report '' 'fault Write')" ] || { echo "a full output: $(cat err)" >&2; failed=1; }
+"$recall" --help >/dev/full 2>err
+[ $? = 3 ] && [ "$(cat err)" = 'fault Write' ] || { echo "a full output of the help: $(cat err)" >&2; failed=1; }
+echo 'reach A x' | "$recall" sim >/dev/full 2>err
+[ $? = 3 ] && [ "$(cat err)" = 'fault Write' ] || { echo "a full output of a script: $(cat err)" >&2; failed=1; }
+"$recall" sim >out 2>err <damaged
+[ $? = 3 ] && [ ! -s out ] && [ "$(cat err)" = 'fault Read' ] || { echo "a script that isn't read: $(cat out err)" >&2; failed=1; }
 "$recall" capture chain shop-2 "$chain/shop-2.json" "$chain/shop-2.json" >/dev/full 2>err
 [ $? = 3 ] && grep -qx 'fault Write' err || { echo "a full output of several documents: $(cat err)" >&2; failed=1; }
 

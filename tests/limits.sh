@@ -335,6 +335,15 @@ led 1001 '"eventID":"e",' 'total 2 outside 0'
 led 1001 '"transformationID":"t",' 'total 2 outside 0'
 led 1001 '' 'total 2 outside 0'
 
+# lined LENGTH STATUS ERRORS: a script of one line of so many spaces ends so, and prints nothing
+lined() {
+    { head -c "$1" /dev/zero | tr '\0' ' ' && echo; } | "$recall" sim >"$work/printed" 2>"$work/told"
+    [ $? = "$2" ] && [ ! -s "$work/printed" ] && [ "$(cat "$work/told")" = "$3" ] || failed=1
+    rows=$((rows + 1))
+}
+lined 16777216 0 ''
+lined 16777217 3 'fault LineTooLong'
+
 # What parts have: the events of each document that a conversion writes. An event by its identifier, the first item and the
 # length of each of its lists, its parent and its transformation; `alone` where the document is an event.
 

@@ -5,7 +5,6 @@ use command_line::run_command;
 use site_threads::FreeGate;
 use std::alloc::{AllocError, Global};
 use std::hash::RandomState;
-use std::io::{self, Error, ErrorKind, Read, Write};
 use std::sync::Wait;
 use std::test::Fail;
 use std::thread::Threads;
@@ -289,88 +288,5 @@ fn commands_run_over_files_in_memory(rt: HostRuntime) -> Result<(), Fail> {
     assert!(rt; first_other(&rt, rt.alloc(), keys, &mut files, &HINDERED) == None);
     assert!(rt; ends_in_runs(&rt, rt.alloc(), keys, &mut files));
     assert!(rt; first_other(&rt, rt.alloc(), keys, &mut files, &ENDED) == None);
-    Ok(())
-}
-
-/// Fails at each read and write.
-#[derive(Drop)]
-struct Broken;
-
-impl Read for Broken {
-    fn read(&mut self, _: &mut [u8]) -> io::Result<usize> {
-        Err(Error::from(ErrorKind::Other))
-    }
-}
-
-impl Write for Broken {
-    fn write(&mut self, _: &[u8]) -> io::Result<usize> {
-        Err(Error::from(ErrorKind::Other))
-    }
-
-    fn flush(&mut self) -> io::Result<()> {
-        Ok(())
-    }
-}
-
-/// Whether a command line ends with status 3 where its output fails, and reports that.
-fn output_fails<R: Threads + Wait + Clock + Sync>(
-    rt: &R,
-    alloc: Global,
-    keys: RandomState,
-    files: &mut MemoryFiles,
-    line: &str,
-) -> bool {
-    let Ok(words) = words_of(alloc, line) else {
-        return false;
-    };
-    let mut input = b"reach A x\n".as_slice();
-    let mut told = Vec::new(alloc);
-    let ended = run_command(
-        rt,
-        alloc,
-        keys,
-        files,
-        FreeGate,
-        words.as_slice(),
-        &mut input,
-        &mut Broken,
-        &mut told,
-    );
-    ended == 3 && told.as_slice() == b"fault Write\n".as_slice()
-}
-
-/// Whether a script ends with status 3 where its input fails, and reports that.
-fn input_fails<R: Threads + Wait + Clock + Sync>(
-    rt: &R,
-    alloc: Global,
-    keys: RandomState,
-    files: &mut MemoryFiles,
-) -> bool {
-    let Ok(words) = words_of(alloc, "recall sim") else {
-        return false;
-    };
-    let mut written = Vec::new(alloc);
-    let mut told = Vec::new(alloc);
-    let ended = run_command(
-        rt,
-        alloc,
-        keys,
-        files,
-        FreeGate,
-        words.as_slice(),
-        &mut Broken,
-        &mut written,
-        &mut told,
-    );
-    ended == 3 && written.is_empty() && told.as_slice() == b"fault Read\n".as_slice()
-}
-
-#[test]
-fn streams_that_fail_end_with_3(rt: HostRuntime) -> Result<(), Fail> {
-    let keys = RandomState::new(&rt)?;
-    let mut files = files(rt.alloc())?;
-    assert!(rt; output_fails(&rt, rt.alloc(), keys, &mut files, "recall sim"));
-    assert!(rt; output_fails(&rt, rt.alloc(), keys, &mut files, "recall --help"));
-    assert!(rt; input_fails(&rt, rt.alloc(), keys, &mut files));
     Ok(())
 }

@@ -1,6 +1,8 @@
-//! Readers and writers that fail, and limits.
+//! A reader and a writer that fail, give and take little or interrupt, and limits. One type of each serves all tests, since a
+//! script is run anew for each pair of them.
 
 use script_core::{ScriptFault, Tally, run_script};
+use std::alloc::Global;
 use std::hash::RandomState;
 use std::io::{self, Error, ErrorKind, Read, Write};
 use std::test::Fail;
@@ -19,16 +21,53 @@ const DONE: Result<Tally, ScriptFault> = Ok(Tally {
     refused: 1,
 });
 
-/// Gives the bytes of a text in pieces of one size, and fails at one of its reads.
+/// Which calls of a stream are interrupted.
+#[derive(Clone, Copy, PartialEq, Eq)]
+pub enum Halts {
+    Never,
+    EachOther,
+    Always,
+}
+
+/// Whether the call of this number, from 1 on, is interrupted.
+fn is_halted(halts: Halts, call: u64) -> bool {
+    match halts {
+        Halts::Never => false,
+        Halts::EachOther => call % 2 == 1,
+        Halts::Always => true,
+    }
+}
+
+/// Gives the bytes of a text in pieces of one size, and fails after so many reads.
 #[derive(Drop)]
-struct Pieces<'a> {
-    rest: &'a [u8],
-    size: usize,
-    reads_left: u64,
+pub struct Pieces<'a> {
+    pub rest: &'a [u8],
+    pub size: usize,
+    pub reads_left: u64,
+    pub halts: Halts,
+    /// How often it was asked.
+    pub asked: u64,
+}
+
+impl<'a> Pieces<'a> {
+    /// A text in pieces of this size, with no failure.
+    pub fn of(rest: &'a [u8], size: usize) -> Pieces<'a> {
+        Pieces {
+            rest,
+            size,
+            reads_left: u64::MAX,
+            halts: Halts::Never,
+            asked: 0,
+        }
+    }
 }
 
 impl Read for Pieces<'_> {
     fn read(&mut self, buffer: &mut [u8]) -> io::Result<usize> {
+        self.asked = self.asked.wrapping_add(1);
+        if is_halted(self.halts, self.asked) {
+            return Err(Error::from(ErrorKind::Interrupted));
+        }
         if self.reads_left == 0 {
             return Err(Error::from(ErrorKind::Other));
         }
@@ -42,61 +81,38 @@ impl Read for Pieces<'_> {
     }
 }
 
-/// Whether the script ends so and leaves these answers, where it comes in such pieces and the read
-/// after so many fails.
-fn ends_in_pieces(
-    rt: &HostRuntime,
-    keys: RandomState,
-    size: usize,
-    reads: u64,
-    outcome: Result<Tally, ScriptFault>,
-    answers: &str,
-) -> bool {
-    let mut written = Vec::new(rt.alloc());
-    let mut reader = Pieces {
-        rest: SCRIPT.as_bytes(),
-        size,
-        reads_left: reads,
-    };
-    run_script(rt.alloc(), keys, &mut reader, &mut written) == outcome
-        && written.as_slice() == answers.as_bytes()
-}
-
-#[test]
-fn a_script_may_come_in_any_pieces(rt: HostRuntime) -> Result<(), Fail> {
-    let keys = RandomState::new(&rt)?;
-    for size in 1..47 {
-        assert!(rt; ends_in_pieces(&rt, keys, size, 100, DONE, ALL));
-    }
-    Ok(())
-}
-
-#[test]
-fn a_failing_reader_leaves_the_answers_of_whole_lines(rt: HostRuntime) -> Result<(), Fail> {
-    let keys = RandomState::new(&rt)?;
-    for reads in 0..45 {
-        let answers = match reads {
-            0..28 => "",
-            28..34 => FIRST,
-            34..44 => SECOND,
-            _ => ALL,
-        };
-        assert!(rt; ends_in_pieces(&rt, keys, 1, reads, Err(ScriptFault::Read), answers));
-    }
-    Ok(())
-}
-
 /// Takes so many bytes, one at a write, and then does as it is told.
 #[derive(Drop)]
-struct Full {
-    written: Vec<u8>,
-    room: usize,
-    then: Option<ErrorKind>,
+pub struct Full {
+    pub written: Vec<u8>,
+    pub room: usize,
+    pub then: Option<ErrorKind>,
+    pub halts: Halts,
+    calls: u64,
+    /// How often it was asked once it had no room.
     asked: u64,
+}
+
+impl Full {
+    /// One with such room, and with room for so much in memory.
+    pub fn of(written: Vec<u8>, room: usize, then: Option<ErrorKind>) -> Full {
+        Full {
+            written,
+            room,
+            then,
+            halts: Halts::Never,
+            calls: 0,
+            asked: 0,
+        }
+    }
 }
 
 impl Write for Full {
     fn write(&mut self, bytes: &[u8]) -> io::Result<usize> {
+        self.calls = self.calls.wrapping_add(1);
+        if is_halted(self.halts, self.calls) {
+            return Err(Error::from(ErrorKind::Interrupted));
+        }
         if self.room == 0 {
             self.asked = self.asked.wrapping_add(1);
             return match self.then {
@@ -115,25 +131,72 @@ impl Write for Full {
     }
 }
 
-/// Whether the script ends so where the writer has such room, and leaves as much of its answers; and
-/// how often the writer was asked after that is `asked`.
+/// Whether the script ends so over these streams, and leaves these answers.
+fn ends(
+    alloc: Global,
+    keys: RandomState,
+    reader: &mut Pieces,
+    writer: &mut Full,
+    outcome: Result<Tally, ScriptFault>,
+    answers: &str,
+) -> bool {
+    run_script(alloc, keys, reader, writer) == outcome
+        && writer.written.as_slice() == answers.as_bytes()
+}
+
+/// Whether the script ends so and leaves these answers, where it comes in such pieces and the read after so many fails.
+fn ends_in_pieces(
+    alloc: Global,
+    keys: RandomState,
+    size: usize,
+    reads: u64,
+    outcome: Result<Tally, ScriptFault>,
+    answers: &str,
+) -> bool {
+    let mut reader = Pieces::of(SCRIPT.as_bytes(), size);
+    reader.reads_left = reads;
+    let mut writer = Full::of(Vec::new(alloc), usize::MAX, None);
+    ends(alloc, keys, &mut reader, &mut writer, outcome, answers)
+}
+
+#[test]
+fn a_script_may_come_in_any_pieces(rt: HostRuntime) -> Result<(), Fail> {
+    let keys = RandomState::new(&rt)?;
+    for size in 1..47 {
+        assert!(rt; ends_in_pieces(rt.alloc(), keys, size, 100, DONE, ALL));
+    }
+    Ok(())
+}
+
+#[test]
+fn a_failing_reader_leaves_the_answers_of_whole_lines(rt: HostRuntime) -> Result<(), Fail> {
+    let keys = RandomState::new(&rt)?;
+    for reads in 0..45 {
+        let answers = match reads {
+            0..28 => "",
+            28..34 => FIRST,
+            34..44 => SECOND,
+            _ => ALL,
+        };
+        assert!(rt; ends_in_pieces(rt.alloc(), keys, 1, reads, Err(ScriptFault::Read), answers));
+    }
+    Ok(())
+}
+
+/// Whether the script ends so where the writer has such room, and leaves as much of its answers; and how often the writer was
+/// asked after that is `asked`.
 fn ends_in_room(
-    rt: &HostRuntime,
+    alloc: Global,
     keys: RandomState,
     room: usize,
     then: Option<ErrorKind>,
     outcome: Result<Tally, ScriptFault>,
     asked: u64,
 ) -> bool {
-    let mut writer = Full {
-        written: Vec::new(rt.alloc()),
-        room,
-        then,
-        asked: 0,
-    };
-    let mut reader = SCRIPT.as_bytes();
+    let mut reader = Pieces::of(SCRIPT.as_bytes(), 1_000);
+    let mut writer = Full::of(Vec::new(alloc), room, then);
     let (front, _) = ALL.as_bytes().split_at(room.min(ALL.len()));
-    run_script(rt.alloc(), keys, &mut reader, &mut writer) == outcome
+    run_script(alloc, keys, &mut reader, &mut writer) == outcome
         && writer.written.as_slice() == front
         && writer.asked == asked
 }
@@ -141,139 +204,37 @@ fn ends_in_room(
 #[test]
 fn a_failing_writer_keeps_a_beginning_of_the_answers(rt: HostRuntime) -> Result<(), Fail> {
     let keys = RandomState::new(&rt)?;
+    let other = Some(ErrorKind::Other);
     for room in 0..58 {
-        let outcome = Err(ScriptFault::Write);
-        assert!(rt; ends_in_room(&rt, keys, room, Some(ErrorKind::Other), outcome, 1));
+        assert!(rt; ends_in_room(rt.alloc(), keys, room, other, Err(ScriptFault::Write), 1));
     }
-    assert!(rt; ends_in_room(&rt, keys, 58, Some(ErrorKind::Other), DONE, 0));
+    assert!(rt; ends_in_room(rt.alloc(), keys, 58, other, DONE, 0));
     Ok(())
 }
 
 #[test]
 fn a_writer_that_takes_nothing_is_asked_1024_times(rt: HostRuntime) -> Result<(), Fail> {
     let keys = RandomState::new(&rt)?;
-    let outcome = Err(ScriptFault::Write);
-    assert!(rt; ends_in_room(&rt, keys, 20, None, outcome, 1_024));
-    assert!(rt; ends_in_room(&rt, keys, 20, Some(ErrorKind::Interrupted), outcome, 1_024));
+    for then in [None, Some(ErrorKind::Interrupted)] {
+        assert!(rt; ends_in_room(rt.alloc(), keys, 20, then, Err(ScriptFault::Write), 1_024));
+    }
     Ok(())
 }
 
-/// Gives a line of so many spaces, and then LF.
-#[derive(Drop)]
-struct Spaces {
-    left: usize,
-    ended: bool,
-}
-
-impl Read for Spaces {
-    fn read(&mut self, buffer: &mut [u8]) -> io::Result<usize> {
-        if self.left == 0 {
-            if self.ended || buffer.is_empty() {
-                return Ok(0);
-            }
-            self.ended = true;
-            buffer[0] = b'\n';
-            return Ok(1);
-        }
-        let count = self.left.min(buffer.len());
-        let (into, _) = buffer.split_at_mut(count);
-        into.fill(b' ');
-        self.left -= count;
-        Ok(count)
-    }
-}
-
-/// What a script is answered that is one line of so many spaces.
-fn run_spaces(rt: &HostRuntime, keys: RandomState, left: usize) -> Result<Tally, ScriptFault> {
-    let mut written = Vec::new(rt.alloc());
-    let mut reader = Spaces { left, ended: false };
-    run_script(rt.alloc(), keys, &mut reader, &mut written)
-}
-
-#[test]
-fn a_line_has_a_limit(rt: HostRuntime) -> Result<(), Fail> {
-    let keys = RandomState::new(&rt)?;
-    let one = Tally {
-        lines: 1,
-        refused: 0,
-    };
-    assert!(rt; run_spaces(&rt, keys, 16_777_216) == Ok(one));
-    assert!(rt; run_spaces(&rt, keys, 16_777_217) == Err(ScriptFault::LineTooLong));
-    Ok(())
-}
-
-/// Interrupts each other call, or all of them, and gives or takes one byte at a time.
-#[derive(Drop)]
-struct Interrupted<'a> {
-    rest: &'a [u8],
-    always: bool,
-    asked: u64,
-    written: Vec<u8>,
-}
-
-impl Interrupted<'_> {
-    fn interrupts(&mut self) -> bool {
-        self.asked = self.asked.wrapping_add(1);
-        self.always || self.asked % 2 == 1
-    }
-}
-
-impl Read for Interrupted<'_> {
-    fn read(&mut self, buffer: &mut [u8]) -> io::Result<usize> {
-        if self.interrupts() {
-            return Err(Error::from(ErrorKind::Interrupted));
-        }
-        let count = self.rest.len().min(buffer.len()).min(1);
-        let (front, rest) = self.rest.split_at(count);
-        let (into, _) = buffer.split_at_mut(count);
-        into.copy_from_slice(front);
-        self.rest = rest;
-        Ok(count)
-    }
-}
-
-impl Write for Interrupted<'_> {
-    fn write(&mut self, bytes: &[u8]) -> io::Result<usize> {
-        if self.interrupts() {
-            return Err(Error::from(ErrorKind::Interrupted));
-        }
-        let (front, _) = bytes.split_at(bytes.len().min(1));
-        self.written.extend_from_slice(front)?;
-        Ok(front.len())
-    }
-
-    fn flush(&mut self) -> io::Result<()> {
-        Ok(())
-    }
-}
-
-fn halting(rt: &HostRuntime, always: bool) -> Interrupted<'static> {
-    Interrupted {
-        rest: SCRIPT.as_bytes(),
-        always,
-        asked: 0,
-        written: Vec::new(rt.alloc()),
-    }
-}
-
+/// Each other call is interrupted, and made again; a reader that interrupts each call is asked a limited number of times.
 #[test]
 fn interrupted_reads_and_writes_are_made_again(rt: HostRuntime) -> Result<(), Fail> {
     let keys = RandomState::new(&rt)?;
-    let mut reader = halting(&rt, false);
-    let mut writer = halting(&rt, false);
-    assert!(rt; run_script(rt.alloc(), keys, &mut reader, &mut writer) == DONE);
-    assert!(rt; writer.written.as_slice() == ALL.as_bytes());
-    Ok(())
-}
-
-#[test]
-fn a_reader_is_asked_a_limited_number_of_times(rt: HostRuntime) -> Result<(), Fail> {
-    let keys = RandomState::new(&rt)?;
-    let mut reader = halting(&rt, true);
-    let mut written = Vec::new(rt.alloc());
-    let outcome = run_script(rt.alloc(), keys, &mut reader, &mut written);
-    assert!(rt; outcome == Err(ScriptFault::TurnsSpent));
+    let mut reader = Pieces::of(SCRIPT.as_bytes(), 1);
+    let mut writer = Full::of(Vec::new(rt.alloc()), usize::MAX, None);
+    reader.halts = Halts::EachOther;
+    writer.halts = Halts::EachOther;
+    assert!(rt; ends(rt.alloc(), keys, &mut reader, &mut writer, DONE, ALL));
+    let mut reader = Pieces::of(SCRIPT.as_bytes(), 1);
+    let mut writer = Full::of(Vec::new(rt.alloc()), usize::MAX, None);
+    reader.halts = Halts::Always;
+    let spent = Err(ScriptFault::TurnsSpent);
+    assert!(rt; ends(rt.alloc(), keys, &mut reader, &mut writer, spent, ""));
     assert!(rt; reader.asked == 16_777_216);
-    assert!(rt; written.is_empty());
     Ok(())
 }

@@ -1,5 +1,6 @@
 //! A script of which one growth may be refused: `tests/hostile.sh` refuses each one in turn.
 
+use crate::scripts::faults::{Full, Pieces};
 use script_core::{ScriptFault, Tally, run_script};
 use std::alloc::{AllocError, Global};
 use std::hash::RandomState;
@@ -13,23 +14,28 @@ const SCRIPT: &str =
 #[derive(Drop)]
 struct Run {
     outcome: Result<Tally, ScriptFault>,
-    written: Vec<u8>,
+    writer: Full,
 }
 
 /// Runs the script, with room for its answers.
 fn run_of(alloc: Global, keys: RandomState) -> Result<Run, AllocError> {
-    let mut written = Vec::with_capacity(alloc, 65_536)?;
-    let mut script = SCRIPT.as_bytes();
-    let outcome = run_script(alloc, keys, &mut script, &mut written);
-    Ok(Run { outcome, written })
+    let written = Vec::with_capacity(alloc, 65_536)?;
+    let mut writer = Full::of(written, usize::MAX, None);
+    let mut reader = Pieces::of(SCRIPT.as_bytes(), 65_536);
+    let outcome = run_script(alloc, keys, &mut reader, &mut writer);
+    Ok(Run { outcome, writer })
 }
 
 /// Whether a run answered its lines as the other one, up to a line at which memory ran out.
 fn is_beginning(run: &Run, other: &Run) -> bool {
-    let is_whole = run.written.is_empty() || run.written.as_slice().ends_with(b"\n");
+    let is_whole = run.writer.written.is_empty() || run.writer.written.as_slice().ends_with(b"\n");
     run.outcome == Err(ScriptFault::NoMemory)
         && is_whole
-        && other.written.as_slice().starts_with(run.written.as_slice())
+        && other
+            .writer
+            .written
+            .as_slice()
+            .starts_with(run.writer.written.as_slice())
 }
 
 #[test]
@@ -37,7 +43,7 @@ fn a_script_ends_at_the_line_at_which_growth_is_refused(rt: HostRuntime) -> Resu
     let keys = RandomState::new(&rt)?;
     let one = run_of(rt.alloc(), keys)?;
     let two = run_of(rt.alloc(), keys)?;
-    let same = one.outcome == two.outcome && one.written == two.written;
+    let same = one.outcome == two.outcome && one.writer.written == two.writer.written;
     let lines = Ok(Tally {
         lines: 10,
         refused: 0,
