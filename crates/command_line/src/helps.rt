@@ -84,7 +84,7 @@ shipments that stands for the site. An item is an EPC, as urn:epc:id:sgtin:06141
 Link or any other text without spaces. A recall is named by its site and its number there, as dairy#1.
 
 Status: 0 done, 1 something was refused, 2 bad command line, 3 a fault, named on the error stream,
-4 an audit found a discrepancy, 5 what was asked for: with `--exit-code` that a recall is open (`status`,
+4 records disagree (`audit`, `run`), 5 what was asked for: with `--exit-code` that a recall is open (`status`,
 `run`, `audit`) or that there are gaps, with `--unless-gaps` that nothing was sent because of them.
 
 `recall <command> --help` says more of a command, with an example.";
@@ -264,10 +264,10 @@ where its signal is outstanding. An open recall goes on in the next `recall run`
 Examples:
   recall status chain
   recall status chain dairy#1
-  for i in 1 2 3; do recall status chain --exit-code; [ $? -eq 5 ] || break; recall run chain; done
+  recall status chain --exit-code || recall run chain --until-ended --exit-code
 
 Status: 0 done, 1 refused (UnknownRecall: the site began none of this number), 3 a fault, and with
-`--exit-code` 5 while a recall that is told of is open.";
+`--exit-code` 5 while one of these recalls is open.";
 
 pub(crate) const ITEMS_ABOUT: &str =
     "Lists the items that a site knows, found by a part of their text";
