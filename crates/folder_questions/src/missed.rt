@@ -16,9 +16,9 @@ use site_recovery::{captured, own_recall};
 use std::alloc::{AllocError, Global};
 use trace_core::Pair;
 
-/// What the recall misses that a text names: the pairs that its root reaches by the packings of all sites that are known
-/// where the goods went, and not by the sites' own ones; each with a recall that holds it, if one does; and what so left
-/// the traced sites.
+/// What the recall misses that a text names: the pairs that its root reaches by the packings of all sites that are
+/// known where the goods went, and not by the sites' own ones; each with a recall that holds it, if one does; and
+/// what so left the traced sites.
 #[derive(Drop)]
 pub struct MissedOf<'a> {
     pub recall: &'a str,

@@ -53,8 +53,8 @@ impl Reached {
     }
 }
 
-/// The shipments of what is reached to places outside, by all that is known of packings, unless the pair is told and the
-/// site's own packings send the item there: by site, then by item, then by destination, each once.
+/// The shipments of what is reached to places outside, by all that is known of packings, unless the pair is told and
+/// the site's own packings send the item there: by site, then by item, then by destination, each once.
 ///
 /// # Errors
 /// Out of memory.

@@ -14,9 +14,9 @@ use std::alloc::{AllocError, Global};
 use std::collections::BTreeSet;
 use trace_core::{Captured, Pair, keys_in_order, reach_from};
 
-/// All that a root reaches by all that is known of packings, itself among it, ascending and without repeats. It has each
-/// pair that the root reaches by the sites' own packings; and where a site sent an item on in something that others
-/// packed, it goes on there.
+/// All that a root reaches by all that is known of packings, itself among it, ascending and without repeats. It has
+/// each pair that the root reaches by the sites' own packings; and where a site sent an item on in something that
+/// others packed, it goes on there.
 ///
 /// # Errors
 /// Out of memory.
@@ -50,8 +50,8 @@ fn set_from(
     set_of(alloc, reach_from(alloc, sites, roots)?)
 }
 
-/// Takes those steps away that lead on from what is reached, adds where they lead to the roots, and returns whether there
-/// was one.
+/// Takes those steps away that lead on from what is reached, adds where they lead to the roots, and returns whether
+/// there was one.
 fn follow(
     alloc: Global,
     reached: &BTreeSet<Pair>,

@@ -70,9 +70,9 @@ fn answers(keeping: &Keeping, steps: &[Step], statements: u64) -> bool {
     is_alike && site.statements() == statements && is_kept(keeping, site, &state)
 }
 
-/// The last signal of a recall writes two rows, and a repeat none. Where the site stopped before it took a message, that writes
-/// six: of x and y in quarantine, of itself seen and as a parent, of the message that it brings forth, and of the next number.
-/// Where the site had taken it, it writes none.
+/// The last signal of a recall writes two rows, and a repeat none. Where the site stopped before it took a message,
+/// that writes six: of x and y in quarantine, of itself seen and as a parent, of the message that it brings forth,
+/// and of the next number. Where the site had taken it, it writes none.
 #[test]
 fn a_recall_ends_over_files(rt: HostRuntime) -> Result<(), Fail> {
     let keeping = keeping(&rt, 1000)?;

@@ -53,8 +53,8 @@ fn opens_and_closes(keeping: &Keeping, files: Files<Frail>, record: Sizes) -> En
     }
 }
 
-/// Whether a disk that fails at each call of one of these files, from the first one on until neither the opening nor the
-/// closing fails, changes nothing, and openings and closings failed.
+/// Whether a disk that fails at each call of one of these files, from the first one on until neither the opening nor
+/// the closing fails, changes nothing, and openings and closings failed.
 fn each_failure(keeping: &Keeping, files: &Files<Frail>, record: Sizes, file: u64) -> Ended {
     let mut openings: u64 = 0;
     let mut closings: u64 = 0;

@@ -30,7 +30,8 @@ pub enum Step {
 
 use Step::{Opens, Stops, Takes};
 
-/// A recall from the capture of its document to its end. A message of B comes twice. The site stops and is opened again.
+/// A recall from the capture of its document to its end. A message of B comes twice. The site stops and is opened
+/// again.
 pub const WITH_OPENINGS: [Step; 9] = [
     Takes(0),
     Stops(1, Keep::Old),
@@ -83,8 +84,8 @@ pub fn input(alloc: Global, number: u64) -> Option<SiteInput> {
     })
 }
 
-/// How many events, messages, messages seen, parents and own recalls a record has, how many of these have ended, and which
-/// numbers come next.
+/// How many events, messages, messages seen, parents and own recalls a record has, how many of these have ended, and
+/// which numbers come next.
 pub type Sizes = [u64; 8];
 
 /// How many of its own recalls have ended.

@@ -10,9 +10,9 @@ use std::alloc::Global;
 use std::hash::RandomState;
 use std::test::Fail;
 
-/// What A, B and C were given, one behind the other, and the condition that B breaks. Where two lists are B's, it captured
-/// what it would of the first, and quarantined and sent what it would of the second, which isn't empty: it has seen no
-/// message, and has no parents and no recalls of its own, and no steps lead there.
+/// What A, B and C were given, one behind the other, and the condition that B breaks. Where two lists are B's, it
+/// captured what it would of the first, and quarantined and sent what it would of the second, which isn't empty: it
+/// has seen no message, and has no parents and no recalls of its own, and no steps lead there.
 type Row<'a> = ([&'a [Given]; 4], u64);
 
 /// Adds a site that was given this.

@@ -1,5 +1,6 @@
-//! What no run of the program reaches or shows of a site's steps, of worlds of sites, of sites that are consistent, and of
-//! questions of recalls, by examples. All of them are rows of what sites are given, which one function gives to a site.
+//! What no run of the program reaches or shows of a site's steps, of worlds of sites, of sites that are consistent,
+//! and of questions of recalls, by examples. All of them are rows of what sites are given, which one function gives
+//! to a site.
 #![tactic(auto)]
 
 #[cfg(test)]

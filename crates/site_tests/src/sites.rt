@@ -164,8 +164,9 @@ fn sent_alone(
     Ok(Diffusion::restore(alloc, number(me), rows, seen, parents, own, message, recall)?)
 }
 
-/// A site of this number that captured what the one did, sent and began what the other did, and, if so, quarantined what
-/// that did: it has seen no message, and has no parents, and no steps lead there. None where that makes no record.
+/// A site of this number that captured what the one did, sent and began what the other did, and, if so, quarantined
+/// what that did: it has seen no message, and has no parents, and no steps lead there. None where that makes no
+/// record.
 pub fn joined(
     alloc: Global,
     one: &SiteState,

@@ -7,8 +7,8 @@ use std::hash::RandomState;
 use std::test::Fail;
 use trace_core::Captured;
 
-/// A document of 1,000 parts of transformation t, each with one item of its list of inputs, or of outputs, which the item
-/// is named by.
+/// A document of 1,000 parts of transformation t, each with one item of its list of inputs, or of outputs, which the
+/// item is named by.
 fn parts(alloc: Global, list: &str) -> Result<String, Fail> {
     let mut text = String::from_str(
         alloc,

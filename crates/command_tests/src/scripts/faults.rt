@@ -1,5 +1,5 @@
-//! A reader and a writer that fail, give and take little or interrupt, and limits. One type of each serves all tests, since a
-//! script is run anew for each pair of them.
+//! A reader and a writer that fail, give and take little or interrupt, and limits. One type of each serves all tests,
+//! since a script is run anew for each pair of them.
 
 use script_core::{ScriptFault, Tally, run_script};
 use std::alloc::Global;
@@ -183,8 +183,8 @@ fn a_failing_reader_leaves_the_answers_of_whole_lines(rt: HostRuntime) -> Result
     Ok(())
 }
 
-/// Whether the script ends so where the writer has such room, and leaves as much of its answers; and how often the writer was
-/// asked after that is `asked`.
+/// Whether the script ends so where the writer has such room, and leaves as much of its answers; and how often the
+/// writer was asked after that is `asked`.
 fn ends_in_room(
     alloc: Global,
     keys: RandomState,
@@ -221,7 +221,8 @@ fn a_writer_that_takes_nothing_is_asked_1024_times(rt: HostRuntime) -> Result<()
     Ok(())
 }
 
-/// Each other call is interrupted, and made again; a reader that interrupts each call is asked a limited number of times.
+/// Each other call is interrupted, and made again; a reader that interrupts each call is asked a limited number of
+/// times.
 #[test]
 fn interrupted_reads_and_writes_are_made_again(rt: HostRuntime) -> Result<(), Fail> {
     let keys = RandomState::new(&rt)?;

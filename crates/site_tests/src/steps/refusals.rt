@@ -12,8 +12,8 @@ use std::test::Fail;
 /// The last number of a message.
 const LAST: u64 = 1 << 62;
 
-/// Site A makes y of x, ships y to B, and starts a recall of x. Not for A are a message for B, one of A itself, a signal by
-/// A, and numbers below the first and past the last.
+/// Site A makes y of x, ships y to B, and starts a recall of x. Not for A are a message for B, one of A itself, a
+/// signal by A, and numbers below the first and past the last.
 fn refuses(alloc: Global, a: &mut SiteState) -> Result<bool, Fail> {
     let rows = [
         (Made('x', 'y'), FRESH),

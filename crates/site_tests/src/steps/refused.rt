@@ -49,8 +49,8 @@ fn give_again(alloc: Global, state: &mut SiteState, rows: &[Row]) -> Result<bool
     Ok(true)
 }
 
-/// Site A makes y of x, ships y to B, starts a recall of x, takes a message of B with y, twice, and the signal that ends its
-/// own; then a message of B with z.
+/// Site A makes y of x, ships y to B, starts a recall of x, takes a message of B with y, twice, and the signal that
+/// ends its own; then a message of B with z.
 fn steps(alloc: Global, a: &mut SiteState) -> Result<bool, Fail> {
     let rows = [
         (Made('x', 'y'), FRESH),
