@@ -1,0 +1,9 @@
+mod ChainLemmas
+mod DigestLemmas
+mod FrameLemmas
+mod NameLemmas
+mod NumberLemmas
+mod ObjectLemmas
+mod ReadBack
+mod SumLemmas
+mod TextLemmas

@@ -1,0 +1,5 @@
+pub mod Chains
+pub mod Finding
+pub mod Laws
+pub mod Lines
+pub mod Sums
