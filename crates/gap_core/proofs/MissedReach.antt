@@ -15,20 +15,20 @@ use Rattle.trace_core.proofs.SetMembers.{contains_pushed, found-insert}
 use Rattle.trace_core.specs.Chains.{Related}
 use Rattle.trace_core.specs.Gaps.{WideRelated}
 use Rattle.trace_core.specs.Sites.{SiteEvents}
-use Rattle.gap_core.specs.Adding.{AddsToList, ByOne}
+use Rattle.gap_core.specs.Adding.{AddsPairs, AddsToList, ByOne}
 use Rattle.gap_core.specs.Laws.{NothingMissedMissesNothing}
 use Rattle.gap_core.specs.Missed.{IsMissedPair, IsPairFound}
 use Rattle.gap_core.proofs.Additions.{adds_alike, adds_nothing, adds_one}
 
--- ---- a set of pairs, made from the end of a list
+-- ---- pairs that are added to a set, from the end of their list
 
--- those in the set and those of the rest are the pairs
-abbrev pub AreParted : List Pair → BTreeSet Pair → List Pair → Type 0
-AreParted pairs set rest = (p : Pair) → (IsFound pair_cmp set p ⊎ Contains rest p) ↔ Contains pairs p
+-- those in the set and those of the rest are those in the old set and the pairs
+abbrev pub AreParted : BTreeSet Pair → List Pair → BTreeSet Pair → List Pair → Type 0
+AreParted old pairs set rest = (p : Pair) → (IsFound pair_cmp set p ⊎ Contains rest p) ↔ (IsFound pair_cmp old p ⊎ Contains pairs p)
 
-pub parted_on : (pairs rest less : List Pair) (set set' : BTreeSet Pair) (last : Pair) → rest ≡ less ++ last ∷ [] → Updates pair_cmp set set' last true
-    → AreParted pairs set rest → AreParted pairs set' less
-parted_on pairs rest less set set' last is upd so p = (
+pub parted_on : (old : BTreeSet Pair) (pairs rest less : List Pair) (set set' : BTreeSet Pair) (last : Pair) → rest ≡ less ++ last ∷ [] → Updates pair_cmp set set' last true
+    → AreParted old pairs set rest → AreParted old pairs set' less
+parted_on old pairs rest less set set' last is upd so p = (
   λ h. (so p).0 (⊎_elim
       (λ found. ⊎_elim
       (λ before. inl before)
@@ -48,8 +48,8 @@ parted_on pairs rest less set set' last is upd so p = (
     in_rest : (p : Pair) → Contains less p ⊎ (last ≡ p) → Contains rest p
     in_rest p h = subst (λ ps. Contains ps p) (sym is) ((contains_pushed less last p).1 h)
 
-pub all_parted : (pairs rest : List Pair) (set : BTreeSet Pair) → length rest ≤ 0 → AreParted pairs set rest → (p : Pair) → IsFound pair_cmp set p ↔ Contains pairs p
-all_parted pairs rest set none so p = (
+pub all_parted : (old : BTreeSet Pair) (pairs rest : List Pair) (set : BTreeSet Pair) → length rest ≤ 0 → AreParted old pairs set rest → AddsPairs old pairs set
+all_parted old pairs rest set none so p = (
   λ found. (so p).0 (inl found),
   λ there. ⊎_elim (λ found. found) (λ (k, below, at). absurd (omega (arith, none, below))) ((so p).1 there),
 )

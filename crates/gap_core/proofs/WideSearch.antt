@@ -9,7 +9,7 @@ use Rattle.trace_core.specs.declared.pairs.Pair.{Pair}
 use Rattle.trace_core.specs.Chains.{Related}
 use Rattle.trace_core.specs.Gaps.{WideRelated}
 use Rattle.trace_core.specs.Pairs.{pair_cmp}
-use Rattle.trace_core.specs.Relations.{ReachedFrom, Reaches}
+use Rattle.trace_core.specs.Relations.{Reaches}
 use Rattle.trace_core.specs.Searches.{IsFound}
 use Rattle.trace_core.specs.Sites.{SiteEvents}
 use Rattle.trace_core.proofs.ChainLaws.{reach_widens, reached_holds, reached_start, reached_step, reaches_itself, reaches_step}
@@ -17,7 +17,7 @@ use Rattle.trace_core.proofs.GapSteps.{sent_or_not, wide_is_between}
 use Rattle.trace_core.proofs.Members.{contains_none}
 use Rattle.trace_core.proofs.SetMembers.{contains_pushed}
 use Rattle.gap_core.specs.MissedSteps.{IsMissedStep}
-use Rattle.gap_core.specs.WideReach.{Follows, IsTarget, target}
+use Rattle.gap_core.specs.WideReach.{Follows, GoesOn, IsTarget, target}
 use Rattle.gap_core.specs.declared.missed_steps.MissedStep.{MissedStep}
 
 -- ---- steps of the wide relation
@@ -49,75 +49,92 @@ module _ (sites : List SiteEvents) where
 
 -- ---- the search
 
--- where it stands: the roots are widely reached, the root among them, and each step that is missed is left, or was followed
-pub record Searched (sites : List SiteEvents) (root : Pair) (steps : List MissedStep) (roots : List Pair) : Type 0 where
-  pub begun : Contains roots root
-  pub sound : (r : Pair) → Contains roots r → Reaches (WideRelated sites) root r
+-- Where it stands: the root is reached, or a root now; what is reached, and the roots now, are widely reached, and the narrow
+-- relation leads from there no further; and each step that is missed is left, or where it leads is reached, or a root now.
+pub record Searched (sites : List SiteEvents) (root : Pair) (reached : BTreeSet Pair) (steps : List MissedStep) (roots : List Pair) : Type 0 where
+  pub begun : IsFound pair_cmp reached root ⊎ Contains roots root
+  pub sound : (p : Pair) → IsFound pair_cmp reached p → Reaches (WideRelated sites) root p
+  pub rooted : (p : Pair) → Contains roots p → Reaches (WideRelated sites) root p
+  pub closed : (p q : Pair) → IsFound pair_cmp reached p → Related sites p q → IsFound pair_cmp reached q
   pub missed : (m : MissedStep) → Contains steps m → IsMissedStep sites m
-  pub taken : (m : MissedStep) → IsMissedStep sites m → Contains steps m ⊎ Contains roots (target m)
+  pub taken : (m : MissedStep) → IsMissedStep sites m → Contains steps m ⊎ (IsFound pair_cmp reached (target m) ⊎ Contains roots (target m))
 
-pub search_begins : (sites : List SiteEvents) (root copy : Pair) (steps : List MissedStep) (roots : List Pair) → ((m : MissedStep) → Contains steps m ↔ IsMissedStep sites m)
-    → copy ≡ root → roots ≡ [] ++ copy ∷ [] → Searched sites root steps roots
-search_begins sites root copy steps roots are same is = record {
-  begun = subst (λ rs. Contains rs root) (sym is) ((contains_pushed [] copy root).1 (inr same));
-  sound = λ r h. ⊎_elim
+-- nothing is reached yet, and the root is the only one
+search_begins : (sites : List SiteEvents) (root copy : Pair) (reached : BTreeSet Pair) (steps : List MissedStep) (roots : List Pair) → ((p : Pair) → IsFound pair_cmp reached p → ⊥)
+    → ((m : MissedStep) → Contains steps m ↔ IsMissedStep sites m) → copy ≡ root → roots ≡ [] ++ copy ∷ [] → Searched sites root reached steps roots
+search_begins sites root copy reached steps roots nothing are same is = record {
+  begun = inr (subst (λ rs. Contains rs root) (sym is) ((contains_pushed [] copy root).1 (inr same)));
+  sound = λ p found. absurd (nothing p found);
+  rooted = λ r h. ⊎_elim
       (λ none. absurd (contains_none r none))
       (λ here. subst (Reaches (WideRelated sites) root) (sym same ∙ here) (reaches_itself (WideRelated sites) root))
       ((contains_pushed [] copy r).0 (subst (λ rs. Contains rs r) is h));
+  closed = λ p q found narrow. absurd (nothing p found);
   missed = λ m. (are m).0;
   taken = λ m it. inl ((are m).1 it);
 }
 
-module _ (sites : List SiteEvents) (root : Pair) (reached : BTreeSet Pair) (steps : List MissedStep) (roots : List Pair) (so_far : Searched sites root steps roots)
-    (are : (p : Pair) → IsFound pair_cmp reached p ↔ ReachedFrom (Related sites) roots p) where
-  widely : (p : Pair) → IsFound pair_cmp reached p → Reaches (WideRelated sites) root p
-  widely p found = let (x, there, chain) = (are p).0 found in wide_on sites root x p (so_far.sound x there) chain
+module _ (sites : List SiteEvents) (root : Pair) (old : BTreeSet Pair) (steps : List MissedStep) (roots : List Pair) (so_far : Searched sites root old steps roots)
+    (new : BTreeSet Pair) (left : List MissedStep) (roots' : List Pair) (more : Bool) (goes : GoesOn sites old steps roots new left roots' more) where
+  there : (p : Pair) → Contains roots p → IsFound pair_cmp new p
+  there p h = (goes.found p).1 (inr (reached_start (Related sites) roots p h))
 
-  pub search_goes_on : (left : List MissedStep) (roots' : List Pair) (more : Bool) → Follows reached steps roots left roots' more → Searched sites root left roots'
-  search_goes_on left roots' more f = record {
-    begun = (f.added root).1 (inl so_far.begun);
-    sound = λ r h. ⊎_elim
-        (λ was. so_far.sound r was)
-        (λ (m, there, found, is). subst (Reaches (WideRelated sites) root) is
-        (reaches_step (WideRelated sites) root m.from (target m) (widely m.from found) (missed_is_wide sites m (so_far.missed m there))))
-        ((f.added r).0 h);
-    missed = λ m h. so_far.missed m ((f.rest m).0 h).0;
-    taken = λ m it. ⊎_elim (λ there. followed m there) (λ was. inr ((f.added (target m)).1 (inl was))) (so_far.taken m it);
+  widely : (p : Pair) → IsFound pair_cmp new p → Reaches (WideRelated sites) root p
+  widely p found = ⊎_elim (λ was. so_far.sound p was) (λ (x, at, chain). wide_on sites root x p (so_far.rooted x at) chain) ((goes.found p).0 found)
+
+  narrowly : (p q : Pair) → IsFound pair_cmp new p → Related sites p q → IsFound pair_cmp new q
+  narrowly p q found narrow = (goes.found q).1 (⊎_elim (λ was. inl (so_far.closed p q was narrow)) (λ chain. inr (reached_step (Related sites) roots p q chain narrow)) ((goes.found p).0 found))
+
+  search_goes_on : Searched sites root new left roots'
+  search_goes_on = record {
+    begun = inl (⊎_elim (λ was. (goes.found root).1 (inl was)) (λ h. there root h) so_far.begun);
+    sound = widely;
+    rooted = λ r h. ⊎_elim
+        (λ none. absurd (contains_none r none))
+        (λ (m, at, found, is). subst (Reaches (WideRelated sites) root) is
+        (reaches_step (WideRelated sites) root m.from (target m) (widely m.from found) (missed_is_wide sites m (so_far.missed m at))))
+        ((goes.follows.added r).0 h);
+    closed = narrowly;
+    missed = λ m h. so_far.missed m ((goes.follows.rest m).0 h).0;
+    taken = λ m it. ⊎_elim (λ at. followed m at) (λ reached. inr (inl (⊎_elim (λ was. (goes.found (target m)).1 (inl was)) (λ h. there (target m) h) reached))) (so_far.taken m it);
   }
     where
-      followed : (m : MissedStep) → Contains steps m → Contains left m ⊎ Contains roots' (target m)
-      followed m there = ⊎_elim
-          (λ found. inr ((f.added (target m)).1 (inr (m, there, found, refl))))
-          (λ not_found. inl ((f.rest m).1 (there, λ found. false≢true (sym not_found ∙ found))))
-          (cases_Bool (contains pair_cmp reached m.from))
+      followed : (m : MissedStep) → Contains steps m → Contains left m ⊎ (IsFound pair_cmp new (target m) ⊎ Contains roots' (target m))
+      followed m at = ⊎_elim
+          (λ found. inr (inr ((goes.follows.added (target m)).1 (inr (m, at, found, refl)))))
+          (λ not_found. inl ((goes.follows.rest m).1 (at, λ found. false≢true (sym not_found ∙ found))))
+          (cases_Bool (contains pair_cmp new m.from))
 
   -- where no step leads on, all is found
-  pub search_ends : ((m : MissedStep) → Contains steps m → IsFound pair_cmp reached m.from → ⊥) → (p : Pair) → IsFound pair_cmp reached p ↔ Reaches (WideRelated sites) root p
+  search_ends : ((m : MissedStep) → Contains steps m → IsFound pair_cmp new m.from → ⊥) → (p : Pair) → IsFound pair_cmp new p ↔ Reaches (WideRelated sites) root p
   search_ends none p = (
     widely p,
-    λ chain. reached_holds (WideRelated sites) (λ q. IsFound pair_cmp reached q) on root p chain ((are root).1 (reached_start (Related sites) roots root so_far.begun)),
+    λ chain. reached_holds (WideRelated sites) (λ q. IsFound pair_cmp new q) on root p chain (⊎_elim (λ was. (goes.found root).1 (inl was)) (λ h. there root h) so_far.begun),
   )
     where
-      on : (x y : Pair) → IsFound pair_cmp reached x → WideRelated sites x y → IsFound pair_cmp reached y
+      on : (x y : Pair) → IsFound pair_cmp new x → WideRelated sites x y → IsFound pair_cmp new y
       on x y found wide = ⊎_elim
-          (λ narrow. (are y).1 (reached_step (Related sites) roots x y ((are x).0 found) narrow))
+          (λ narrow. narrowly x y found narrow)
           (λ (m, it, from, to). ⊎_elim
-          (λ there. absurd (none m there (subst (IsFound pair_cmp reached) (sym from) found)))
-          (λ rooted. subst (IsFound pair_cmp reached) to ((are (target m)).1 (reached_start (Related sites) roots (target m) rooted)))
+          (λ at. absurd (none m at (subst (IsFound pair_cmp new) (sym from) found)))
+          (λ reached. subst (IsFound pair_cmp new) to (⊎_elim (λ was. (goes.found (target m)).1 (inl was)) (λ h. there (target m) h) reached))
           (so_far.taken m it))
           (wide_or_missed sites x y wide)
 
--- where it stands behind a turn
+-- where it stands between two turns
 pub record Stands (sites : List SiteEvents) (root : Pair) (reached : BTreeSet Pair) (steps : List MissedStep) (roots : List Pair) (more : Bool) : Type 0 where
-  pub searched : Searched sites root steps roots
+  pub searched : Searched sites root reached steps roots
   pub ended : more ≡ false → (p : Pair) → IsFound pair_cmp reached p ↔ Reaches (WideRelated sites) root p
 
-pub turned : (sites : List SiteEvents) (root : Pair) (reached : BTreeSet Pair) (steps : List MissedStep) (roots : List Pair) → Searched sites root steps roots
-    → ((p : Pair) → IsFound pair_cmp reached p ↔ ReachedFrom (Related sites) roots p) → (left : List MissedStep) (roots' : List Pair) (more : Bool)
-    → Follows reached steps roots left roots' more → Stands sites root reached left roots' more
-turned sites root reached steps roots so_far are left roots' more f = record {
-  searched = search_goes_on sites root reached steps roots so_far are left roots' more f;
-  ended = λ over. search_ends sites root reached steps roots so_far are (f.none over);
+pub stands_first : (sites : List SiteEvents) (root copy : Pair) (reached : BTreeSet Pair) (steps : List MissedStep) (roots : List Pair) → ((p : Pair) → IsFound pair_cmp reached p → ⊥)
+    → ((m : MissedStep) → Contains steps m ↔ IsMissedStep sites m) → copy ≡ root → roots ≡ [] ++ copy ∷ [] → Stands sites root reached steps roots true
+stands_first sites root copy reached steps roots nothing are same is = record { searched = search_begins sites root copy reached steps roots nothing are same is; ended = λ over. absurd (false≢true (sym over)) }
+
+pub turned : (sites : List SiteEvents) (root : Pair) (old : BTreeSet Pair) (steps : List MissedStep) (roots : List Pair) (before : Bool) → Stands sites root old steps roots before
+    → (new : BTreeSet Pair) (left : List MissedStep) (roots' : List Pair) (more : Bool) → GoesOn sites old steps roots new left roots' more → Stands sites root new left roots' more
+turned sites root old steps roots before so_far new left roots' more goes = record {
+  searched = search_goes_on sites root old steps roots so_far.searched new left roots' more goes;
+  ended = λ over. search_ends sites root old steps roots so_far.searched new left roots' more goes (goes.follows.none over);
 }
 
 -- a turn leaves fewer steps, or is the last

@@ -1,5 +1,9 @@
 -- What is added to something that holds elements.
 use Rattle.std.specs.Prelude.{◌≡◌, ◌↔◌, ◌⊎◌, ℕ, List, ◌++◌, Some, Contains, slice_get}
+use Rattle.std.specs.BTreeSet.{BTreeSet}
+use Rattle.trace_core.specs.declared.pairs.Pair.{Pair}
+use Rattle.trace_core.specs.Pairs.{pair_cmp}
+use Rattle.trace_core.specs.Searches.{IsFound}
 
 -- just those of P are added
 abbrev pub AddsTo : {X : Type 0} → (X → Type 0) → (X → Type 0) → (X → Type 0) → Type 0
@@ -31,3 +35,7 @@ pub record NotesThose {X : Type 0} (P : X → Type 0) (old new : List X) : Type 
 -- so for one
 abbrev pub NotesOne : {X : Type 0} → X → List X → List X → Type 0
 NotesOne {X} y old new = NotesThose (λ (x : X). y ≡ x) old new
+
+-- the pairs were added to the set
+abbrev pub AddsPairs : BTreeSet Pair → List Pair → BTreeSet Pair → Type 0
+AddsPairs old pairs new = AddsTo (IsFound pair_cmp old) (IsFound pair_cmp new) (Contains pairs)

@@ -3,7 +3,11 @@ use Rattle.std.specs.Prelude.{◌≡◌, ◌↔◌, ◌⊎◌, ◌≤◌, ◌+�
 use Rattle.std.specs.BTreeSet.{BTreeSet}
 use Rattle.trace_core.specs.declared.pairs.Pair.{Pair}
 use Rattle.trace_core.specs.Pairs.{pair_cmp}
+use Rattle.trace_core.specs.Chains.{Related}
+use Rattle.trace_core.specs.Relations.{ReachedFrom}
 use Rattle.trace_core.specs.Searches.{IsFound}
+use Rattle.trace_core.specs.Sites.{SiteEvents}
+use Rattle.gap_core.specs.Adding.{AddsTo}
 use Rattle.gap_core.specs.declared.missed_steps.MissedStep.{MissedStep}
 
 -- where a step leads
@@ -25,3 +29,8 @@ pub record Follows (reached : BTreeSet Pair) (steps : List MissedStep) (roots : 
   pub rest : (m : MissedStep) → Contains left m ↔ (Contains steps m × (IsFound pair_cmp reached m.from → ⊥))
   pub fewer : length left + cond more 1 0 ≤ length steps
   pub none : more ≡ false → (m : MissedStep) → Contains steps m → IsFound pair_cmp reached m.from → ⊥
+
+-- What the roots reach by the sites' own packings was added to what was reached, and where steps lead from there are roots now.
+pub record GoesOn (sites : List SiteEvents) (old : BTreeSet Pair) (steps : List MissedStep) (roots : List Pair) (new : BTreeSet Pair) (left : List MissedStep) (roots' : List Pair) (more : Bool) : Type 0 where
+  pub found : AddsTo (IsFound pair_cmp old) (IsFound pair_cmp new) (ReachedFrom (Related sites) roots)
+  pub follows : Follows new steps [] left roots' more

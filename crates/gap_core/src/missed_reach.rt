@@ -4,7 +4,7 @@ ghost use Rattle.trace_core.specs.declared.pairs.Pair.{Pair};
 ghost use Rattle.trace_core.specs.Chains.{sites_at};
 ghost use Rattle.trace_core.specs.Pairs.{IsStrictlyAscending, pair_cmp};
 ghost use Rattle.trace_core.specs.Searches.{IsFound};
-ghost use Rattle.gap_core.specs.Adding.{AddsToList};
+ghost use Rattle.gap_core.specs.Adding.{AddsPairs, AddsToList};
 ghost use Rattle.gap_core.specs.Missed.{IsMissedPair, IsPairFound};
 
 use crate::missed::missed_pairs;
@@ -40,11 +40,19 @@ pub fn set_of(alloc: Global, pairs: Vec<Pair>) -> Result<BTreeSet<Pair>, AllocEr
     ensures { IfOk result (λ set. (p : Pair) → IsFound pair_cmp set p ↔ Contains pairs.items p) }
 {
     let mut set = BTreeSet::new(alloc);
+    add_pairs(&mut set, pairs)?;
+    Ok(set)
+}
+
+/// Adds pairs to a set.
+pub(crate) fn add_pairs(set: &mut BTreeSet<Pair>, pairs: Vec<Pair>) -> Result<(), AllocError>
+    ensures { OnOk result (AddsPairs set.old pairs.items set.new) }
+{
     let mut rest = pairs;
     while let Some(pair) = rest.pop() {
         set.insert(pair)?;
     }
-    Ok(set)
+    Ok(())
 }
 
 /// Notes a pair, if it is in a set.

@@ -1,14 +1,13 @@
 //! What a root reaches by all that is known of packings.
-ghost use Rattle.std.specs.Prelude.{◌≡◌, ◌↔◌, ◌⊎◌, ◌++◌, ◌∷◌, [], true, false, IfOk, OnOk, Contains};
+ghost use Rattle.std.specs.Prelude.{◌↔◌, IfOk, Contains};
 ghost use Rattle.trace_core.specs.declared.pairs.Pair.{Pair};
-ghost use Rattle.trace_core.specs.Chains.{Related, sites_at};
+ghost use Rattle.trace_core.specs.Chains.{sites_at};
 ghost use Rattle.trace_core.specs.Gaps.{WideRelated};
-ghost use Rattle.trace_core.specs.Pairs.{IsStrictlyAscending, pair_cmp};
-ghost use Rattle.trace_core.specs.Relations.{ReachedFrom, Reaches};
-ghost use Rattle.trace_core.specs.Searches.{IsFound};
-ghost use Rattle.gap_core.specs.WideReach.{Follows, FollowsOne};
+ghost use Rattle.trace_core.specs.Pairs.{IsStrictlyAscending};
+ghost use Rattle.trace_core.specs.Relations.{Reaches};
+ghost use Rattle.gap_core.specs.WideReach.{Follows, FollowsOne, GoesOn};
 
-use crate::missed_reach::set_of;
+use crate::missed_reach::add_pairs;
 use crate::missed_steps::{MissedStep, missed_steps};
 use std::alloc::{AllocError, Global};
 use std::collections::BTreeSet;
@@ -29,25 +28,31 @@ pub fn wide_reach(alloc: Global, sites: &[&Captured], root: &Pair) -> Result<Vec
     let mut steps = missed_steps(alloc, sites)?;
     let mut roots = Vec::new(alloc);
     roots.push(root.copy(alloc)?)?;
-    let mut reached = set_from(alloc, sites, &roots)?;
-    let mut more = follow(alloc, &reached, &mut steps, &mut roots)?;
+    let mut reached = BTreeSet::new(alloc);
+    let mut more = true;
     while more {
-        reached = set_from(alloc, sites, &roots)?;
-        more = follow(alloc, &reached, &mut steps, &mut roots)?;
+        more = go_on(alloc, sites, &mut reached, &mut steps, &mut roots)?;
     }
     keys_in_order(alloc, reached)
 }
 
-/// What some roots reach by the sites' own packings.
-fn set_from(
+/// Adds what some roots reach by the sites' own packings to what is reached, takes those steps away that lead on from
+/// there, to new roots, and returns whether there was one.
+fn go_on(
     alloc: Global,
     sites: &[&Captured],
-    roots: &[Pair],
-) -> Result<BTreeSet<Pair>, AllocError>
-    ensures { IfOk result (λ set. (p : Pair) → IsFound pair_cmp set p
-        ↔ ReachedFrom (Related (sites_at sites.now)) roots.now p) }
+    reached: &mut BTreeSet<Pair>,
+    steps: &mut Vec<MissedStep>,
+    roots: &mut Vec<Pair>,
+) -> Result<bool, AllocError>
+    ensures { IfOk result (GoesOn (sites_at sites.now) reached.old steps.old.items roots.old.items
+        reached.new steps.new.items roots.new.items) }
 {
-    set_of(alloc, reach_from(alloc, sites, roots)?)
+    add_pairs(reached, reach_from(alloc, sites, roots)?)?;
+    let mut next = Vec::new(alloc);
+    let more = follow(alloc, reached, steps, &mut next)?;
+    *roots = next;
+    Ok(more)
 }
 
 /// Takes those steps away that lead on from what is reached, adds where they lead to the roots, and returns whether

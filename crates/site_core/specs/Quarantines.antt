@@ -1,7 +1,8 @@
 -- What is quarantined at a site: for each recall a set of items.
-use Rattle.std.specs.Prelude.{◌≢◌, ℕ, Bool, List, [], ◌∷◌, Option, Some, None}
+use Rattle.std.specs.Prelude.{◌≡◌, ◌≢◌, ℕ, Bool, false, List, [], ◌∷◌, Option, Some, None, IsTrue}
 use Rattle.std.specs.Coded.{Coded}
 use Rattle.std.specs.FinMap as map
+use Rattle.std.specs.Ordering.{is_gt}
 use Rattle.frame_core.specs.Identifiers.{recall_cmp}
 use Rattle.frame_core.specs.Numbers.{Recall, coded_recall}
 pub use Rattle.site_core.specs.ItemSets.{item_cmp, Items}
@@ -26,6 +27,11 @@ items_under q r = or_none (map.get q r)
 -- the item is quarantined under the recall
 abbrev pub held : Quarantine → Recall → List ℕ → Bool
 held q r i = set.contains (items_under q r) i
+
+-- the least recall under which the item is quarantined; or it is so under none
+abbrev pub IsLeastHolder : Quarantine → List ℕ → Option Recall → Type 0
+IsLeastHolder q i None = (r : Recall) → IsTrue (held q r i) → ⊥
+IsLeastHolder q i (Some r) = IsTrue (held q r i) × ((other : Recall) → IsTrue (held q other i) → is_gt (recall_cmp r other) ≡ false)
 
 -- with one more item under the recall
 abbrev pub with_item : Quarantine → Recall → List ℕ → Quarantine

@@ -7,7 +7,7 @@ ghost use Rattle.frame_core.specs.Tables.{as_map};
 ghost use Rattle.site_core.specs.HeldIndex.{has, IsIndex};
 ghost use Rattle.site_core.specs.Holding.{without_item, without_items};
 ghost use Rattle.site_core.specs.ItemSets as set;
-ghost use Rattle.site_core.specs.Quarantines.{held, with_item, with_items, HasNoEmptySet};
+ghost use Rattle.site_core.specs.Quarantines.{held, with_item, with_items, HasNoEmptySet, IsLeastHolder};
 
 use crate::held_index::{copy_index, forget, note};
 use crate::item_sets::ItemSet;
@@ -186,6 +186,14 @@ impl Quarantine {
             ≡ held self.now r item.now }
     {
         self.index.get(item)
+    }
+
+    /// The least recall under which an item is quarantined.
+    pub fn least_holder(&self, item: &Epc) -> Option<RecallId>
+        ensures { IsLeastHolder self.now item.now result }
+    {
+        let recalls = self.recalls_of(item)?;
+        Some(*recalls.first()?)
     }
 
     /// The items that are quarantined, by recall. None of the sets is empty.
