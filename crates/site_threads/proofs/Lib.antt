@@ -1,6 +1,7 @@
 mod Answered
 mod Beginning
 mod Changing
+mod Coming
 mod Confirming
 mod Continuing
 mod Delivering

@@ -126,7 +126,7 @@ to_site to row = row.1.dest == to
 
 module _ (e : Engagement) (to : ℕ) where
   -- a message waits where its row is the site's
-  waits : (n : ℕ) → Contains (waiting e to) n → (row : Row) × (get e.outbox n ≡ Some row) × ((row.dest == to) ≡ true)
+  pub waits : (n : ℕ) → Contains (waiting e to) n → (row : Row) × (get e.outbox n ≡ Some row) × ((row.dest == to) ≡ true)
   waits n at =
       let (row, among, is) = contains-from_map (λ (x : ℕ × Row). x.0) (filter (to_site to) (entries e.outbox)) n at in
       let (there, mine) = passing (to_site to) (entries e.outbox) row among in
@@ -139,7 +139,7 @@ module _ (e : Engagement) (to : ℕ) where
   is_dest : (a : ℕ) → (a == to) ≡ true → a ≡ to
   is_dest a h = grind (arith, h)
 
-  same_dest : (a : ℕ) → a ≡ to → (a == to) ≡ true
+  pub same_dest : (a : ℕ) → a ≡ to → (a == to) ≡ true
   same_dest a h = grind (arith, h)
 
   le_true : (a b : ℕ) → a ≤ b → nat_le a b ≡ true

@@ -6,6 +6,7 @@ pub mod Gathering
 pub mod Inputs
 pub mod Jobs
 pub mod Keepers
+pub mod Laws
 pub mod Offers
 pub mod Parting
 pub mod Passing

@@ -12,6 +12,7 @@ mod gates;
 mod gather;
 mod gathered;
 mod jobs;
+pub mod laws;
 mod lists;
 mod offers;
 mod passing;
