@@ -139,7 +139,7 @@ const BEFORE: [Row; 28] = [
         "recall capture d A made broken",
         1,
         "captured 2 known 0 skipped 0 made\n",
-        "note: 1 destination",
+        "the document is no JSON in UTF-8",
     ),
     (
         "recall capture d A made --lines",

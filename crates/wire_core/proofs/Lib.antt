@@ -14,5 +14,4 @@ pub mod Between
 pub mod Continuing
 pub mod CallsTold
 pub mod Standing
-pub mod Playing
 pub mod Out

@@ -7,7 +7,6 @@ pub mod Fitting
 pub mod Frames
 pub mod Laws
 pub mod Mailboxes
-pub mod Playing
 pub mod Rule
 pub mod Seats
 pub mod Standing

@@ -7,8 +7,6 @@ pub mod laws;
 mod mailing;
 mod rules;
 mod steps;
-#[cfg(test)]
-mod tests;
 mod views;
 mod ways;
 mod wires;
