@@ -25,16 +25,7 @@ stops=${STOPS:-50}
 # wants STATUS OUTPUT ERRORS WORD..: the program ends so on these words; sentences stand behind refusals and faults
 wants() {
     local status=$1 output=$2 errors ended
-    # Of several inputs no refusal is explained, but one of them all.
-    if [[ $2 == 'refused NoSite '* ]]; then
-        errors=$(explained "$4" "$2" "$3")
-    elif [ "$4" = capture ] && [ "$#" -gt 7 ]; then
-        errors=$(explained capture 'documents ' "$3")
-    elif [ "$4" = start ] && [ "$#" -gt 7 ] && [[ " $* " != *' --key '* && " $* " != *' --scan '* && " $* " != *' --dry-run '* ]]; then
-        errors=$(explained start 'items ' "$3")
-    else
-        errors=$(explained "$4" "$2" "$3")
-    fi
+    errors=$(explained "$4" "$2" "$3")
     shift 3
     "$recall" "$@" >out 2>err </dev/null
     ended=$?
@@ -235,9 +226,19 @@ if command -v sqlite3 >/dev/null; then
     wants 0 "$(printf '%s\n' 'open dairy#1' 'equal plant#1 pairs 7')" 'stuck dairy#1 at dairy' audit stuck
     wants 0 "$(printf '%s\n' 'dairy#1 open' 'plant#1 ended')" 'a further `recall run` goes on with the recalls that are open' run stuck
 fi
+# files that were copied one after another, behind the ends of these recalls, and with what came since
+cp -r damaged late
+"$recall" start damaged plant "$tank" >out 2>err && "$recall" run damaged >out 2>err || failed=1
+rm late/shop-1.db* && cp damaged/shop-1.db* late
+wants 4 'misfit 2 shop-2' '' audit late
+wants 0 "$(printf '%s\n' 'equal dairy#1 pairs 8' 'equal plant#1 pairs 7')" '' audit late --ended
+# and a file from before
+damaged
+wants 0 "$(printf '%s ended\n' 'dairy#1' 'plant#1')" '' run damaged
 cp chain/shop-1.db chain/shop-1.db-wal damaged
 wants 4 'misfit 2 shop-1' '' audit damaged
 wants 4 'misfit 2 shop-1' '' run damaged
+wants 4 "$(printf 'differs %s shop-1 sgtin 09521321000179 1 missing\n' 'dairy#1' 'plant#1')" '' audit damaged --ended
 for words in 'status damaged' 'status damaged dairy#1' 'report damaged dairy#1' "trace damaged dairy $tank" "trace damaged dairy $tank --back"; do
     "$recall" $words >out 2>err </dev/null
     [ $? = 0 ] && grep -q '^note: misfit 2 shop-1: ' err || { echo "no misfit is told beside $words: $(cat err)" >&2; failed=1; }

@@ -42,10 +42,24 @@ new.close()
 PYTHON
 }
 
-# explained COMMAND OUTPUT ERRORS: the error stream of a command that prints this and has these lines of a fault, or notes; of
-# several inputs only a fault is explained
+# explained COMMAND OUTPUT ERRORS: the error stream of a command that prints this and has these lines of a fault, or notes: of
+# several refusals in a row, and of several inputs, those with one sentence are explained once
 explained() {
-    local command=$1 output=$2 errors=$3 line sentence last=
+    local command=$1 output=$2 errors=$3 line sentence last= told=
+    while IFS= read -r line; do
+        case $line in
+        'refused '*)
+            # shellcheck disable=SC2086
+            sentence=$(meaning_of "$command" ${line#refused })
+            case $output$errors in
+            *'documents '* | *'items '* | 'refused '*'fault '*) [[ $told == *"$sentence"$'\n'* ]] && continue ;;
+            *) [ "$sentence" = "$last" ] && continue ;;
+            esac
+            printf '%s\n' "$sentence"
+            told+=$sentence$'\n' last=$sentence
+            ;;
+        esac
+    done <<<"$output"
     case $errors in
     'fault '*)
         line=${errors%%$'\n'*}
@@ -56,26 +70,10 @@ explained() {
         *': no permission') sentence=$(meaning 'Some[(]Cause::NoPermission[)]') ;;
         *) sentence=$(meaning "Fault::${line#fault }") ;;
         esac
-        printf '%s\n%s\n' "$errors" "$sentence"
-        return
+        errors+=$'\n'$sentence
         ;;
     esac
-    case $output in
-    *'documents '* | *'items '*) ;;
-    *)
-        while IFS= read -r line; do
-            case $line in
-            'refused '*)
-                # shellcheck disable=SC2086
-                sentence=$(meaning_of "$command" ${line#refused })
-                [ "$sentence" = "$last" ] || printf '%s\n' "$sentence"
-                last=$sentence
-                ;;
-            esac
-        done <<<"$output"
-        ;;
-    esac
-    printf '%s' "$errors"
+    printf '%s\n' "$errors"
 }
 
 # without_notes FILE: its lines without what a capture says isn't traced, which tests/json.sh looks at

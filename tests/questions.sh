@@ -594,8 +594,11 @@ def recall_one(folder, events, site, item):
     named[folder].append((recall, (site, item)))
     for name, root in named[folder]:
         misses(folder, events, name, root)
-    ask("audit", folder)
-    hold_missed("an audit", set().union(*(steps(relate(events)[0], root) for root in begun[folder])), missed)
+    led = set().union(*(steps(relate(events)[0], root) for root in begun[folder]))
+    audit = ask("audit", folder)
+    hold_missed("an audit", led, missed)
+    same("an audit of what has ended", ask("audit", folder, "--ended"), audit)
+    hold_missed("an audit of what has ended", led, missed)
     report = ask("report", folder, recall).splitlines()
     hold_missed(f"report {recall}", steps(relate(events)[0], (site, item)), find_gaps(events)[3])
     hold_inside(f"report {recall}", events, item)

@@ -235,6 +235,7 @@ def commands(chains):
         Command("report-csv", "question", chains.ended, ["report", "@", "plant#1", "--csv"], []),
         Command("report-dot", "question", chains.ended, ["report", "@", "plant#1", "--dot"], []),
         Command("audit", "question", chains.ended, ["audit", "@"], []),
+        Command("audit-ended", "question", chains.ended, ["audit", "--ended", "@"], []),
         Command("audit-wait", "question", chains.ended, ["audit", "--json", "--wait", "2", "@", "--exit-code"], []),
         Command("trace", "question", chains.whole, ["trace", "@", "plant", TANK, "--events"], []),
         Command("trace-back", "question", chains.whole, ["trace", "@", "shop-1", CARTON, "--back", "--json"], []),

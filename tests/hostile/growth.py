@@ -13,10 +13,13 @@ import memory
 
 # For each crate of tests the tests whose growth is refused.
 TESTS = {
-    "site_tests": ["steps::refused::a_document_is_read_where_growth_is_refused", "steps::refused::steps_are_taken_where_growth_is_refused"],
+    "site_tests": [
+        "steps::refused::a_document_is_read_where_growth_is_refused",
+        "steps::refused::steps_are_taken_where_growth_is_refused",
+        "turns::refused::a_recall_ends_where_growth_is_refused",
+    ],
     "command_tests": ["scripts::refused::a_script_ends_at_the_line_at_which_growth_is_refused"],
     "site_stops_tests": ["refused::a_site_in_files_goes_on_where_growth_is_refused"],
-    "site_threads_tests": ["turns::refused::a_recall_ends_where_growth_is_refused"],
 }
 # How a test ends that has no memory for what its calls are given.
 LACKS = {b"error: NoMemory", b"error: AllocError"}

@@ -60,7 +60,7 @@ module _ {K : Type 0} (shown : K → Option Record) (may : K → Record → Type
         asked_acts calls (asks_behind shown stored f.now _ _ (λ first its asks. after_asks shown stored f.now asks (λ ss rest told. refused_or shown stored f.now told.1 (λ t. all_told shown stored f.now t.2))) output calls leads)
     leads_acts (Run f terms) output calls leads = λ sites old new many continued left. has_run shown may opens stored f.now sites old new many calls continued left knows failed terms output leads
     leads_acts (Report f recall ways events) output calls leads = asked_acts calls (after_asks shown stored f.now leads (λ ss rest told. refused_or shown stored f.now told.1 (λ t. all_told shown stored f.now t.2)))
-    leads_acts (Audit f coded) output calls leads = asked_acts calls (after_asks shown stored f.now leads (λ ss rest told. refused_or shown stored f.now told.1 (λ t. all_told shown stored f.now t.2)))
+    leads_acts (Audit f ended coded) output calls leads = asked_acts calls (after_asks shown stored f.now leads (λ ss rest told. refused_or shown stored f.now told.1 (λ t. all_told shown stored f.now t.2)))
     leads_acts (Trace f site item back ways events) output calls leads =
         asked_acts calls (asks_behind shown stored f.now _ _ (λ first its asks. after_asks shown stored f.now asks (λ ss rest told. refused_or shown stored f.now told.1 (λ t. all_told shown stored f.now t.2))) output calls leads)
     leads_acts (Recalls f coded) output calls leads = asked_acts calls (after_asks shown stored f.now leads (λ ss rest told. refused_or shown stored f.now told.1 (λ t. all_told shown stored f.now t.2)))
@@ -82,7 +82,7 @@ module _ {K : Type 0} (shown : K → Option Record) (may : K → Record → Type
     fails_acts (Start f site item true) fault calls fails = asked_acts calls fails.harmless
     fails_acts (Run f terms) fault calls fails = λ sites old new many continued left. run_failed shown may opens stored f.now sites old new many calls continued left failed reopens gives_up terms fault fails
     fails_acts (Report f recall ways events) fault calls fails = asked_acts calls fails.harmless
-    fails_acts (Audit f coded) fault calls fails = asked_acts calls fails.harmless
+    fails_acts (Audit f ended coded) fault calls fails = asked_acts calls fails.harmless
     fails_acts (Trace f site item back ways events) fault calls fails = asked_acts calls fails.harmless
     fails_acts (Recalls f coded) fault calls fails = asked_acts calls fails.harmless
     fails_acts (OneRecall f recall coded) fault calls fails = asked_acts calls fails.harmless

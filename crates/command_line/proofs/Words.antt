@@ -52,7 +52,7 @@ sim_is_no_command (Capture folder site file) rows is = let bad = is.0 in cc
 sim_is_no_command (Start folder site item dry) rows is = let bad = is.0 in cc
 sim_is_no_command (Run folder terms) rows is = let bad : ◌≡◌ {A = ℕ} 115 114 = ap (λ (text : List ℕ). get_or text 0 0) is.0 in absurd (omega arith)
 sim_is_no_command (Report folder recall ways events) rows is = let bad = is.0 in cc
-sim_is_no_command (Audit folder coded) rows is = let bad = is.0 in cc
+sim_is_no_command (Audit folder ended coded) rows is = let bad = is.0 in cc
 sim_is_no_command (Inside folder site item text) rows is = let bad = is.0 in cc
 sim_is_no_command (Coverage folder) rows is = let bad = is.0 in cc
 sim_is_no_command (Gaps folder coded) rows is = let bad = is.0 in cc

@@ -142,7 +142,7 @@ abbrev pub report : App
 report = with_forms (with_ways (with_rule (on_folder (codes "report")) (required (codes "recall"))))
 
 abbrev pub audit : App
-audit = with_rule (on_folder (codes "audit")) (flag (codes "exit-code"))
+audit = with_rule (with_rule (on_folder (codes "audit")) (flag (codes "ended"))) (flag (codes "exit-code"))
 
 abbrev pub trace : App
 trace =
@@ -333,7 +333,8 @@ IsCommand (Run folder terms) name rows =
 IsCommand (Report folder recall ways events) name rows =
     (name ≡ codes "report") × Gives rows (codes "dir") folder.now × Gives rows (codes "recall") recall.now × GivesWays rows ways
     × (IsTrue events ↔ IsSet rows (codes "events"))
-IsCommand (Audit folder coded) name rows = (name ≡ codes "audit") × Gives rows (codes "dir") folder.now × (IsTrue coded ↔ IsSet rows (codes "exit-code"))
+IsCommand (Audit folder ended coded) name rows =
+    (name ≡ codes "audit") × Gives rows (codes "dir") folder.now × (IsTrue ended ↔ IsSet rows (codes "ended")) × (IsTrue coded ↔ IsSet rows (codes "exit-code"))
 IsCommand (Trace folder site item back ways events) name rows =
     (name ≡ codes "trace") × Gives rows (codes "dir") folder.now × Gives rows (codes "site") site.now × GivesItem rows item
     × (IsTrue back ↔ IsSet rows (codes "back")) × GivesWays rows ways

@@ -42,10 +42,11 @@ Plainly Tells output calls = Tells output.sites output.outcome calls × (output.
 -- ---- the questions
 
 module _ {K : Type 0} (shown : K → Option Record) (stored : K → Type 0) (folder : List ℕ) where
-  -- whether the records are consistent, how each recall's quarantine compares with what its root reaches, and what is stuck
-  abbrev pub Audits : Bool → Output → List (FileCall K) → Type 0
-  Audits coded output =
-      AsksAll {Q = ⊤} {A = Outcome × Notes} shown stored folder (λ sites told. ⊥) (λ sites asked. ⊤) (λ asked rs told. AnswersAudit rs coded told.0 told.1)
+  -- whether the records are consistent, how each recall's quarantine compares with what its root reaches, and what is stuck; or
+  -- of records that were copied one after another how those that have ended compare
+  abbrev pub Audits : Bool → Bool → Output → List (FileCall K) → Type 0
+  Audits ended coded output =
+      AsksAll {Q = ⊤} {A = Outcome × Notes} shown stored folder (λ sites told. ⊥) (λ sites asked. ⊤) (λ asked rs told. AnswersAudit rs ended coded told.0 told.1)
       output.sites (output.outcome, output.notes)
 
   -- how all recalls stand
@@ -132,7 +133,7 @@ module _ {K : Type 0} (knows : List ℕ → List ℕ → Type 0) (shown : K → 
       AndWho shown stored folder.now (record { site = site; item = item }) (DryStarts shown stored folder.now site.now item) output calls
   LeadsTo (Run folder terms) output calls = RunsAt knows shown failed may stored folder.now terms output calls
   LeadsTo (Report folder recall ways events) output calls = Reports shown stored folder.now recall.now ways events output calls
-  LeadsTo (Audit folder coded) output calls = Audits shown stored folder.now coded output calls
+  LeadsTo (Audit folder ended coded) output calls = Audits shown stored folder.now ended coded output calls
   LeadsTo (Trace folder site item back ways events) output calls =
       AndWho shown stored folder.now (record { site = site; item = item }) (Traces shown stored folder.now site.now item back ways events) output calls
   LeadsTo (Recalls folder coded) output calls = AllStand shown stored folder.now coded output calls
@@ -154,7 +155,7 @@ module _ {K G : Type 0} (shown : K → Option Record) (failed : K → ℕ) (may 
   FailsBy (Start folder site item true) fault calls = EndsInVain shown folder.now fault calls
   FailsBy (Run folder terms) fault calls = RunFails shown failed may reopens gives_up stored folder.now terms fault calls
   FailsBy (Report folder recall ways events) fault calls = EndsInVain shown folder.now fault calls
-  FailsBy (Audit folder coded) fault calls = EndsInVain shown folder.now fault calls
+  FailsBy (Audit folder ended coded) fault calls = EndsInVain shown folder.now fault calls
   FailsBy (Trace folder site item back ways events) fault calls = EndsInVain shown folder.now fault calls
   FailsBy (Recalls folder coded) fault calls = EndsInVain shown folder.now fault calls
   FailsBy (OneRecall folder recall coded) fault calls = EndsInVain shown folder.now fault calls

@@ -128,6 +128,8 @@ pub(crate) enum FileCommand<'a> {
     /// All sites are audited, and perhaps for a status that tells that a recall is open.
     Audit {
         folder: &'a str,
+        /// Whether the records may be copies that were taken one after another, of which ended recalls alone are told.
+        ended: bool,
         coded: bool,
     },
     /// It is asked what each site captured, and from when to when.

@@ -10,10 +10,11 @@ use crate::limits::LimitsDocuments;
 use crate::sinks::InputLines;
 use folder_commands::{BatchCame, BatchOutput, take_inputs, task_of};
 use keeper_core::SiteKeeper;
-use outcome_forms::{write_noted, write_totals};
+use outcome_forms::{InputSentences, write_noted, write_sentences, write_totals};
 use recall_outcomes::{Fault, Notes, Output};
 use site_folders::Files;
 use std::alloc::Global;
+use std::cell::RefCell;
 use std::io::Write;
 
 /// Captures several documents, or starts several recalls, each of which is answered once it is kept, and returns the
@@ -30,17 +31,21 @@ pub(crate) fn take_batch<K: SiteKeeper, F: Files<K> + LimitsDocuments, W: Write,
 {
     files.wait_for(batch.terms.wait);
     files.limit_to(batch.terms.most);
-    match take_all(alloc, files, batch, output) {
+    let sentences = RefCell::new(InputSentences::new(alloc));
+    let taken = take_all(alloc, files, batch, &sentences, output);
+    write_sentences(alloc, batch.terms.form, &sentences.into_inner(), errors);
+    match taken {
         Ok(told) => tell_batch(alloc, files, batch, told, output, errors),
         Err(cause) => fault(alloc, batch.terms.form, files, cause, errors),
     }
 }
 
-/// Takes the inputs.
+/// Takes the inputs, and gathers what their refusals mean.
 fn take_all<K: SiteKeeper, F: Files<K>, W: Write>(
     alloc: Global,
     files: &mut F,
     batch: &Batch<'_>,
+    sentences: &RefCell<InputSentences>,
     output: &mut W,
 ) -> Result<BatchOutput, Fault>
     ensures { TakesBatch F.does K.shown K.may K.stored W.contents batch.now files.old files.new
@@ -50,6 +55,7 @@ fn take_all<K: SiteKeeper, F: Files<K>, W: Write>(
         alloc,
         form: batch.terms.form,
         task: task_of(batch.kind),
+        sentences,
     };
     let inputs = folder_commands::Batch {
         words: batch.words.as_slice(),

@@ -1,21 +1,21 @@
 //! What the words of a command line ask for.
 
-ghost use Rattle.std.specs.Prelude.{◌≡◌, ◌↔◌, false, None, IfNone, IfOk, IfSome, IsTrue, codes, length};
+ghost use Rattle.std.specs.Prelude.{◌≡◌, ◌↔◌, false, None, IfNone, IfOk, IfSome, IsTrue, length};
 ghost use Rattle.clap.specs.Words.{first_of, found_of, kind_of, rows_of, subcommand_rows_of};
-ghost use Rattle.command_line.specs.CommandLines.{texts_of, AsksDryBatch, AsksFor, AsksIdleSpelling, AsksLinesAndEvents, AsksNamed, AsksOf, AsksTwoForms, AsksTwoSpellings, AsksUntoldEvents, Gives, GivesDocuments, GivesForm, GivesItem, GivesMost, GivesNumber, GivesOrNone, GivesSpelling, GivesTerms, GivesWays, IsCapture, IsCommand, IsMistake, IsSet, IsStart, IsToldAs, epcs_kind, has_many};
+ghost use Rattle.command_line.specs.CommandLines.{texts_of, AsksFor, AsksIdleSpelling, AsksLinesAndEvents, AsksNamed, AsksOf, AsksTwoForms, AsksTwoSpellings, AsksUntoldEvents, Gives, GivesDocuments, GivesForm, GivesMost, GivesNumber, GivesSpelling, GivesTerms, IsCapture, IsMistake, IsSet, IsStart, IsToldAs, epcs_kind, has_many};
 
 use crate::asked::{Asked, Batch, FileCommand, Terms};
 use crate::convert_commands::convert_command;
+use crate::folder_words::file_command;
 use crate::grammar::recall;
 use crate::helps;
 use crate::lint_commands::lint_command;
 use crate::pack_commands::packs_command;
 use clap::error::ErrorKind;
 use clap::{ArgMatches, Error};
-use folder_commands::{RunTerms, WordKind};
+use folder_commands::WordKind;
 use item_spellings::{Spelled, Spelling};
 use outcome_forms::Form;
-use recall_outcomes::Ways;
 use std::alloc::{AllocError, Global};
 
 /// Reads the words of a command line, the program's name first.
@@ -265,187 +265,8 @@ fn is_absent(given: &ArgMatches<'_>, name: &str) -> bool
     }
 }
 
-/// The command of a name on the sites' files.
-fn file_command<'a>(name: &str, given: &ArgMatches<'a>) -> Option<FileCommand<'a>>
-    ensures { IfSome result (λ c. IsCommand c name.now (rows_of (found_of given.now))) }
-{
-    let folder = argument(given, "dir")?;
-    if name == "init" {
-        let list = argument(given, "sites")?;
-        Some(FileCommand::Init { folder, list })
-    } else if name == "copy" {
-        let to = argument(given, "to")?;
-        Some(FileCommand::Copy { folder, to })
-    } else if name == "run" {
-        all_sites_command(folder, given)
-    } else if name == "report" {
-        let recall = argument(given, "recall")?;
-        let (ways, events) = (ways_of(given), is_set(given, "events"));
-        Some(FileCommand::Report {
-            folder,
-            recall,
-            ways,
-            events,
-        })
-    } else if name == "audit" {
-        let coded = is_set(given, "exit-code");
-        Some(FileCommand::Audit { folder, coded })
-    } else if name == "coverage" {
-        Some(FileCommand::Coverage { folder })
-    } else if name == "gaps" {
-        Some(gaps_command(folder, given))
-    } else if name == "status" {
-        Some(status_command(folder, given))
-    } else {
-        site_command(name, folder, given)
-    }
-}
-
-/// The command to run all sites.
-fn all_sites_command<'a>(folder: &'a str, given: &ArgMatches<'a>) -> Option<FileCommand<'a>>
-    requires { Gives (rows_of (found_of given.now)) (codes "dir") folder.now }
-    ensures { IfSome result (λ c. IsCommand c (codes "run") (rows_of (found_of given.now))) }
-{
-    let turns = number(given, "turns")?;
-    if turns < 1 || 1_000_000 < turns {
-        return None;
-    }
-    let terms = RunTerms {
-        turns,
-        until_ended: is_set(given, "until-ended"),
-        unless_gaps: is_set(given, "unless-gaps"),
-        coded: is_set(given, "exit-code"),
-    };
-    Some(FileCommand::Run { folder, terms })
-}
-
-/// The command of a name at one site.
-fn site_command<'a>(name: &str, folder: &'a str, given: &ArgMatches<'a>) -> Option<FileCommand<'a>>
-    requires { Gives (rows_of (found_of given.now)) (codes "dir") folder.now }
-    ensures { IfSome result (λ c. IsCommand c name.now (rows_of (found_of given.now))) }
-{
-    let site = argument(given, "site")?;
-    if name == "trace" {
-        let item = item_of(given)?;
-        let (back, ways) = (is_set(given, "back"), ways_of(given));
-        let events = is_set(given, "events");
-        Some(FileCommand::Trace {
-            folder,
-            site,
-            item,
-            back,
-            ways,
-            events,
-        })
-    } else if name == "items" {
-        items_command(folder, site, given)
-    } else {
-        None
-    }
-}
-
-/// The command that asks for items: those that a site knows, or those that lie in one that it knows.
-fn items_command<'a>(
-    folder: &'a str,
-    site: &'a str,
-    given: &ArgMatches<'a>,
-) -> Option<FileCommand<'a>>
-    requires folder { Gives (rows_of (found_of given.now)) (codes "dir") folder.now }
-    requires site { Gives (rows_of (found_of given.now)) (codes "site") site.now }
-    ensures { IfSome result (λ c. IsCommand c (codes "items") (rows_of (found_of given.now))) }
-{
-    let text = text_of(given);
-    match given.get_str("in") {
-        Some(container) => {
-            let spelling = spelling_of(given)?;
-            let item = Spelled {
-                text: container,
-                spelling,
-            };
-            Some(FileCommand::Inside {
-                folder,
-                site,
-                item,
-                text,
-            })
-        }
-        None => known_items(folder, site, text, given),
-    }
-}
-
-/// The command that asks for the items that a site knows. None where it is said how an item is spelled: that is refused
-/// before.
-fn known_items<'a>(
-    folder: &'a str,
-    site: &'a str,
-    text: &'a str,
-    given: &ArgMatches<'a>,
-) -> Option<FileCommand<'a>>
-    requires folder { Gives (rows_of (found_of given.now)) (codes "dir") folder.now }
-    requires site { Gives (rows_of (found_of given.now)) (codes "site") site.now }
-    requires text { GivesOrNone (rows_of (found_of given.now)) (codes "text") text.now }
-    requires none { first_of (codes "in") (rows_of (found_of given.now)) ≡ None }
-    ensures { IfSome result (λ c. IsCommand c (codes "items") (rows_of (found_of given.now))) }
-{
-    match spelling_of(given)? {
-        Spelling::Epc => Some(FileCommand::Items { folder, site, text }),
-        Spelling::Key | Spelling::Scan => None,
-    }
-}
-
-/// The command that asks how recalls stand: the one that is named, or all.
-fn status_command<'a>(folder: &'a str, given: &ArgMatches<'a>) -> FileCommand<'a>
-    requires { Gives (rows_of (found_of given.now)) (codes "dir") folder.now }
-    ensures { IsCommand result (codes "status") (rows_of (found_of given.now)) }
-{
-    let coded = is_set(given, "exit-code");
-    match given.get_str("recall") {
-        Some(recall) => FileCommand::Recall {
-            folder,
-            recall,
-            coded,
-        },
-        None => FileCommand::Recalls { folder, coded },
-    }
-}
-
-/// The command that asks for gaps, or for what the recall misses that is named.
-fn gaps_command<'a>(folder: &'a str, given: &ArgMatches<'a>) -> FileCommand<'a>
-    requires { Gives (rows_of (found_of given.now)) (codes "dir") folder.now }
-    ensures { IsCommand result (codes "gaps") (rows_of (found_of given.now)) }
-{
-    let coded = is_set(given, "exit-code");
-    match given.get_str("recall") {
-        Some(recall) => FileCommand::Missed {
-            folder,
-            recall,
-            coded,
-        },
-        None => FileCommand::Gaps { folder, coded },
-    }
-}
-
-/// The text that the keys of items are to contain, which is empty where none is given.
-fn text_of<'a>(given: &ArgMatches<'a>) -> &'a str
-    ensures { GivesOrNone (rows_of (found_of given.now)) (codes "text") result.now }
-{
-    match given.get_str("text") {
-        Some(text) => text,
-        None => "",
-    }
-}
-
-/// The item that is given, by its spelling.
-fn item_of<'a>(given: &ArgMatches<'a>) -> Option<Spelled<'a>>
-    ensures { IfSome result (GivesItem (rows_of (found_of given.now))) }
-{
-    let text = argument(given, "epc")?;
-    let spelling = spelling_of(given)?;
-    Some(Spelled { text, spelling })
-}
-
 /// How the item is spelled. None where two ways are named.
-fn spelling_of(given: &ArgMatches<'_>) -> Option<Spelling>
+pub(crate) fn spelling_of(given: &ArgMatches<'_>) -> Option<Spelling>
     ensures one { IfSome result (GivesSpelling (rows_of (found_of given.now))) }
     ensures two { IfNone result (AsksTwoSpellings (rows_of (found_of given.now))) }
 {
@@ -459,17 +280,6 @@ fn spelling_of(given: &ArgMatches<'_>) -> Option<Spelling>
     }
 }
 
-/// Whether paths are shown in full or by their last step.
-fn ways_of(given: &ArgMatches<'_>) -> Ways
-    ensures { GivesWays (rows_of (found_of given.now)) result }
-{
-    if is_set(given, "brief") {
-        Ways::Steps
-    } else {
-        Ways::Trails
-    }
-}
-
 /// The argument of a name.
 pub(crate) fn argument<'a>(given: &ArgMatches<'a>, name: &str) -> Option<&'a str>
     ensures { IfSome result (λ v. Gives (rows_of (found_of given.now)) name.now v.now) }
@@ -478,7 +288,7 @@ pub(crate) fn argument<'a>(given: &ArgMatches<'a>, name: &str) -> Option<&'a str
 }
 
 /// The number that the argument of a name gives.
-fn number(given: &ArgMatches<'_>, name: &str) -> Option<u64>
+pub(crate) fn number(given: &ArgMatches<'_>, name: &str) -> Option<u64>
     ensures { IfSome result (λ n. GivesNumber (rows_of (found_of given.now)) name.now n) }
 {
     given.get_one::<u64>(name)

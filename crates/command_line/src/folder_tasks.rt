@@ -79,8 +79,15 @@ pub(crate) fn do_command<
             };
             Ok(with_notes(ask(alloc, files, folder, &question)?))
         }
-        FileCommand::Audit { folder, coded } => {
-            let question = Audit { coded: *coded };
+        FileCommand::Audit {
+            folder,
+            ended,
+            coded,
+        } => {
+            let question = Audit {
+                ended: *ended,
+                coded: *coded,
+            };
             Ok(with_notes(ask(alloc, files, folder, &question)?))
         }
         FileCommand::Trace {

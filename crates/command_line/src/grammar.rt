@@ -146,7 +146,13 @@ fn report<'a>(alloc: Global) -> Result<Command<'a>, AllocError>
 fn audit<'a>(alloc: Global) -> Result<Command<'a>, AllocError>
     ensures { IfOk result (λ command. app_of command ≡ audit) }
 {
-    on_folder(alloc, "audit", helps::AUDIT_ABOUT, helps::AUDIT_EXAMPLE)?.arg(exit_code(alloc))
+    on_folder(alloc, "audit", helps::AUDIT_ABOUT, helps::AUDIT_EXAMPLE)?
+        .arg(flag(
+            alloc,
+            "ended",
+            "Compare ended recalls alone: of files that were copied one after another, behind their ends",
+        ))?
+        .arg(exit_code(alloc))
 }
 
 fn trace<'a>(alloc: Global) -> Result<Command<'a>, AllocError>

@@ -217,11 +217,12 @@ pub(crate) const AUDIT_ABOUT: &str =
 pub(crate) const AUDIT_EXAMPLE: &str = "\
 Prints for each recall `open <recall>`, or, once it has ended, `equal <recall> pairs <count>` or
 `differs <recall> <site> <item> missing` (or `extra`). Where the records are inconsistent it prints
-`misfit <condition> <site>` alone.
+`misfit <condition> <site>` alone; with `--ended` they need not be consistent.
 
 Examples:
   recall audit chain
   recall audit chain --exit-code
+  recall audit copies --ended
 
 Status: 0 done, 3 a fault, 4 a misfit or a difference, and with `--exit-code` 5 while a recall is open.";
 

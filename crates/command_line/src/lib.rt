@@ -8,6 +8,7 @@ mod command_lines;
 mod commands;
 mod convert_commands;
 mod folder_tasks;
+mod folder_words;
 mod grammar;
 mod helps;
 pub mod laws;

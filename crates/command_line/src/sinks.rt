@@ -8,22 +8,24 @@ ghost use Rattle.document_lint.specs.Lines.{lint_json};
 use document_lint::Lint;
 use event_json::Sites;
 use folder_commands::{InputSink, LintSink};
-use outcome_forms::{Form, shown, write_input};
+use outcome_forms::{Form, InputSentences, shown, write_input};
 use recall_outcomes::{Fault, InputOutcome, Task};
 use recall_text::write_text;
 use std::alloc::{AllocError, Global};
+use std::cell::RefCell;
 use std::io::Write;
 
-/// A line for what came of each input.
+/// A line for what came of each input. Beside that it gathers what refusals mean.
 #[derive(Drop)]
-pub(crate) struct InputLines {
+pub(crate) struct InputLines<'a> {
     pub(crate) alloc: Global,
     pub(crate) form: Form,
     /// What is done with the inputs.
     pub(crate) task: Task,
+    pub(crate) sentences: &'a RefCell<InputSentences>,
 }
 
-impl<W: Write> InputSink<W> for InputLines {
+impl<W: Write> InputSink<W> for InputLines<'_> {
     ghost use Rattle.command_line.specs.Ends.{InputLine};
 
     ghost takes = { λ lines before sites source came after.
@@ -36,6 +38,9 @@ impl<W: Write> InputSink<W> for InputLines {
         source: &str,
         came: &InputOutcome,
     ) -> Result<(), Fault> {
+        if let Ok(mut sentences) = self.sentences.try_borrow_mut() {
+            sentences.add(came);
+        }
         write_input(
             self.alloc, self.form, self.task, sites, source, came, output,
         )

@@ -280,7 +280,7 @@ fn lot_read(alloc: Global, unit: &str) -> Result<Option<String>, AllocError>
 #[tactic(auto, unfolding(crate::specs::Lots::lot_of))]
 pub fn lot_of(alloc: Global, text: &str) -> Result<Option<String>, AllocError>
     // Two spellings of one lot become one item, and two lots never one.
-    // Not covered: which texts name a unit stands by the cases of `unit_of` and by rows in tracing_tests.
+    // Not covered: which texts name a unit stands by the cases of `unit_of` and by rows of site_tests.
     ensures { IfOk result (λ lot. option_map string_bytes lot ≡ lot_of text.now) }
 {
     match unit_of(alloc, text)? {

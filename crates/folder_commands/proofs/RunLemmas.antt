@@ -139,7 +139,7 @@ module _ {K : Type 0} (shown : K → Option Record) (failed : K → ℕ) (may : 
   came_or_not (outcomes.Known site items) end answers = absurd answers
   came_or_not (outcomes.Covered sites) end answers = absurd answers
   came_or_not (outcomes.WouldStart plan ended) end answers = absurd answers
-  came_or_not (outcomes.Audited recalls coded) end answers = absurd answers
+  came_or_not (outcomes.Audited recalls ended coded) end answers = absurd answers
   came_or_not (outcomes.Gaps gaps coded) end answers = absurd answers
   came_or_not (outcomes.Missed recall missed coded) end answers = absurd answers
   came_or_not (outcomes.Refused whys) end answers = absurd answers

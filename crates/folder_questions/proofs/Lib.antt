@@ -3,6 +3,7 @@ mod ContentsLemmas
 mod CoverageLemmas
 mod DryStartLemmas
 mod KnowerLemmas
+mod LateLemmas
 mod MissedLemmas
 mod NoneLemmas
 mod PackLemmas

@@ -2,26 +2,21 @@
 use Rattle.std.proofs.Common.{◌≡◌, ◌↔◌, ◌∙◌, inl, inr, ℕ, ◌+◌, ◌<◌, true, false, List, [], ◌∷◌, ◌++◌, Option, None, Some, length, take, get_or, refl, sym, ap, subst, ⊎_elim}
 use mathlib.Core.Bool.{false≢true}
 use Rattle.std.specs.BTreeSet.{BTreeSet, contains}
-use Rattle.std.specs.FinMap.{empty, entries, get, get-empty}
+use Rattle.std.specs.FinMap.{empty, get, get-empty}
 use Rattle.std.specs.List.{Contains}
 use Rattle.std.specs.Prelude.{IsSome, IsTrue}
 use Rattle.std.proofs.lemmas.Bool.{cases_Bool}
 use Rattle.std.proofs.lemmas.List.{take_more}
 use Rattle.frame_core.specs.Identifiers.{recall_cmp}
 use Rattle.frame_core.specs.Numbers.{Recall}
-use Rattle.frame_core.specs.Orders.{recall_exact, recall_total}
 use Rattle.gap_core.specs.Misses.{AreReached, IsBeyond, IsMissedFrom}
 use Rattle.gap_core.specs.Untold.{IsUntoldIn, shipped_pair}
 use Rattle.gap_core.specs.declared.untold.Reached.{Reached}
 use Rattle.gap_core.specs.declared.untold.UntoldShipment.{UntoldShipment}
 use Rattle.recall_outcomes.specs.declared.outcomes.MissedPair.{MissedPair}
-use Rattle.site_core.specs.ItemSets as set
-use Rattle.site_core.specs.ItemSets.{Items}
-use Rattle.site_core.specs.Quarantines.{Quarantine, held}
+use Rattle.site_core.specs.Quarantines.{IsLeastHolder, Quarantine, held}
 use Rattle.site_core.specs.Records.{Record}
-use Rattle.site_core.proofs.Entries.{entry_found, entry_there}
 use Rattle.site_core.proofs.Held.{none_held}
-use Rattle.site_recovery.proofs.QuarantinedItems.{held_is, kept_set}
 use Rattle.site_recovery.specs.Laws.{captured_of}
 use Rattle.site_recovery.specs.Looks.{Held, World, world_of}
 use Rattle.trace_core.specs.Pairs.{pair_cmp}
@@ -29,7 +24,7 @@ use Rattle.trace_core.specs.Searches.{IsFound}
 use Rattle.trace_core.proofs.SetMembers.{contains_more}
 use Rattle.trace_core.proofs.Members.{contains_cases, contains_here, contains_none, contains_there}
 use Rattle.trace_core.specs.declared.pairs.Pair.{Pair}
-use Rattle.folder_questions.specs.Missed.{AddsHolder, AreHolders, IsHolder, IsHolderIn, IsTold, IsUntoldFrom, TellsAll, TellsOne}
+use Rattle.folder_questions.specs.Missed.{AddsHolder, AreHolders, IsHolder, IsTold, IsUntoldFrom, TellsAll, TellsOne}
 
 -- ---- one pair after another
 
@@ -86,11 +81,11 @@ tells_more missed i m below at first mid last (same, so_far) (kept, one) = (
   ),
 )
 
-holder_held : (q : Quarantine) (i : List ℕ) (h : Option Recall) → IsSome h → IsHolderIn q i h → (r : Recall) × IsTrue (held q r i)
+holder_held : (q : Quarantine) (i : List ℕ) (h : Option Recall) → IsSome h → IsLeastHolder q i h → (r : Recall) × IsTrue (held q r i)
 holder_held q i None some holds = absurd (false≢true some)
-holder_held q i (Some r) some holds = (r, holds)
+holder_held q i (Some r) some holds = (r, holds.0)
 
-has_holder : (q : Quarantine) (i : List ℕ) (h : Option Recall) → IsHolderIn q i h → (r : Recall) → IsTrue (held q r i) → IsSome h
+has_holder : (q : Quarantine) (i : List ℕ) (h : Option Recall) → IsLeastHolder q i h → (r : Recall) → IsTrue (held q r i) → IsSome h
 has_holder q i None none r is = absurd (none r is)
 has_holder q i (Some s) holds r is = refl
 
@@ -149,39 +144,6 @@ module _ (records : List Record) (root : Pair) (first last : Reached) (are : Are
 
 -- ---- the recalls of a quarantine
 
--- what is left to look at is of the quarantine, and a recall that holds the item is left
-pub record AreLeft (q : Quarantine) (item : List ℕ) (left : List (Recall × Items)) : Type 0 where
-  pub among : (e : Recall × Items) → Contains left e → Contains (entries q) e
-  pub holds : (r : Recall) → IsTrue (held q r item) → (e : Recall × Items) × Contains left e × IsTrue (set.contains e.1 item)
-
-pub all_left : (q : Quarantine) (item : List ℕ) (left : List (Recall × Items)) → left ≡ entries q → AreLeft q item left
-all_left q item left are = record {
-  among = λ e there. subst (λ es. Contains es e) are there;
-  holds = λ r is.
-      let (items, kept) = kept_set q r item is in
-      ((r, items), subst (λ es. Contains es (r, items)) (sym are) (entry_there recall_total recall_exact q r items kept), sym (held_is q r items item kept) ∙ is);
-}
-
-pub one_less : (q : Quarantine) (item : List ℕ) (left rest : List (Recall × Items)) (r : Recall) (items : Items) → left ≡ (r, items) ∷ rest → set.contains items item ≡ false → AreLeft q item left → AreLeft q item rest
-one_less q item left rest r items is without so = record {
-  among = λ e there. so.among e (subst (λ es. Contains es e) (sym is) (contains_there (r, items) e rest there));
-  holds = λ s held_so.
-      let (e, there, has) = so.holds s held_so in
-      ⊎_elim
-      (λ first. absurd (false≢true (sym without ∙ subst (λ (x : Recall × Items). IsTrue (set.contains x.1 item)) (sym first) has)))
-      (λ later. (e, later, has))
-      (contains_cases (r, items) e rest (subst (λ es. Contains es e) is there));
-}
-
-pub this_holds : (q : Quarantine) (item : List ℕ) (left rest : List (Recall × Items)) (r : Recall) (items : Items) → left ≡ (r, items) ∷ rest → set.contains items item ≡ true → AreLeft q item left
-    → IsHolderIn q item (Some r)
-this_holds q item left rest r items is has so =
-    let there = so.among (r, items) (subst (λ es. Contains es (r, items)) (sym is) (contains_here (r, items) rest)) in
-    held_is q r items item (entry_found recall_total q r items there) ∙ has
-
-pub none_holds : (q : Quarantine) (item : List ℕ) (left : List (Recall × Items)) → left ≡ [] → AreLeft q item left → IsHolderIn q item None
-none_holds q item left none so r is = let (e, there, has) = so.holds r is in contains_none e (subst (λ es. Contains es e) none there)
-
 -- of a quarantine without recalls none does
-pub nothing_holds : (q : Quarantine) (item : List ℕ) → q ≡ empty → IsHolderIn q item None
+pub nothing_holds : (q : Quarantine) (item : List ℕ) → q ≡ empty → IsLeastHolder q item None
 nothing_holds q item none r is = false≢true (sym (none_held q r item (ap (λ p. get p r) none ∙ get-empty recall_cmp r)) ∙ is)

@@ -3,6 +3,7 @@ use Rattle.std.specs.Prelude.{◌≡◌, ◌≢◌, ◌⊎◌, Bool, true, false
 use Rattle.std.specs.List.{AllZip}
 use Rattle.frame_core.specs.Numbers.{Recall}
 use Rattle.query_core.specs.Stuck.{stuck_from}
+use Rattle.query_core.specs.declared.stuck.StuckRecall.{StuckRecall}
 use Rattle.recall_outcomes.specs.declared.notes.Notes.{Notes}
 use Rattle.recall_outcomes.specs.declared.notes.Notes.TheVariants.{Nothing, Audit}
 use Rattle.recall_outcomes.specs.declared.outcomes.AuditedRecall.{AuditedRecall}
@@ -28,17 +29,23 @@ HasVerdict records r true None = ⊥
 abbrev pub AuditsRecall : List Record → StartedRecall → AuditedRecall → Type 0
 AuditsRecall records begun audited = (audited.recall ≡ begun.recall) × HasVerdict records begun.recall begun.ended audited.verdict
 
--- the sites that are stuck in recalls are noted, site by site, and what the roots of all recalls reach and miss; where there is neither, nothing
-abbrev pub NotesAudit : List Record → Notes → Type 0
-NotesAudit records Nothing = (flat_map stuck_from records ≡ []) × AreMissedFrom records (roots true records) []
-NotesAudit records (Audit found) =
-    (found.stuck.items ≡ flat_map stuck_from records) × AreMissedFrom records (roots true records) found.missed.items × ((found.stuck.items ≢ []) ⊎ (found.missed.items ≢ []))
-NotesAudit records other = ⊥
+-- these sites are noted as stuck in recalls, and what the roots of all recalls reach and miss; where there is neither, nothing
+abbrev pub NotesAudit : List Record → List StuckRecall → Notes → Type 0
+NotesAudit records stuck Nothing = (stuck ≡ []) × AreMissedFrom records (roots true records) []
+NotesAudit records stuck (Audit found) =
+    (found.stuck.items ≡ stuck) × AreMissedFrom records (roots true records) found.missed.items × ((found.stuck.items ≢ []) ⊎ (found.missed.items ≢ []))
+NotesAudit records stuck other = ⊥
+
+-- each recall that a site began was audited, one for one and in order, with the status that was asked for
+abbrev pub AuditsAll : List Record → Bool → List AuditedRecall → Bool → Type 0
+AuditsAll records coded audited told = (told ≡ coded) × AllZip (AuditsRecall records) (begun records) audited
 
 -- The records are consistent, and each recall that a site began was audited, one for one and in order, with a note of what is
 -- stuck and of what is missed, and with the status that was asked for; or the records aren't consistent, and that is the outcome.
-abbrev pub AnswersAudit : List Record → Bool → Outcome → Notes → Type 0
-AnswersAudit records coded (Audited recalls told) notes =
-    (told ≡ coded) × Fits (world_of records) [] × AllZip (AuditsRecall records) (begun records) recalls.items × NotesAudit records notes
-AnswersAudit records coded (Inconsistent misfit) notes = IsMisfit (length records) (world_of records) misfit.condition misfit.site × (notes ≡ Nothing)
-AnswersAudit records coded other notes = ⊥
+-- Of copies that were taken one after another it isn't asked whether they are consistent, nor what is stuck.
+abbrev pub AnswersAudit : List Record → Bool → Bool → Outcome → Notes → Type 0
+AnswersAudit records false coded (Audited recalls false told) notes =
+    Fits (world_of records) [] × AuditsAll records coded recalls.items told × NotesAudit records (flat_map stuck_from records) notes
+AnswersAudit records false coded (Inconsistent misfit) notes = IsMisfit (length records) (world_of records) misfit.condition misfit.site × (notes ≡ Nothing)
+AnswersAudit records true coded (Audited recalls true told) notes = AuditsAll records coded recalls.items told × NotesAudit records [] notes
+AnswersAudit records ended coded other notes = ⊥

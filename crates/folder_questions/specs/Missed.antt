@@ -1,5 +1,5 @@
 -- What it comes to when it is asked what a recall misses.
-use Rattle.std.specs.Prelude.{◌≡◌, ◌↔◌, ◌⊎◌, ℕ, Bool, List, [], ◌∷◌, ◌++◌, Option, None, Some, IsSome, IsTrue, Contains}
+use Rattle.std.specs.Prelude.{◌≡◌, ◌↔◌, ◌⊎◌, Bool, List, [], ◌∷◌, ◌++◌, Option, None, Some, IsSome, Contains}
 use Rattle.std.specs.List.Sorted.{IsStrictlySortedBy}
 use mathlib.Core.Logic.{inr}
 use Rattle.frame_core.specs.Numbers.{Recall}
@@ -13,7 +13,7 @@ use Rattle.recall_outcomes.specs.declared.outcomes.MissedReach.{MissedReach}
 use Rattle.recall_outcomes.specs.declared.outcomes.Outcome.{Outcome}
 use Rattle.recall_outcomes.specs.declared.outcomes.Outcome.TheVariants.{Missed, Refused}
 use Rattle.scholten_core.specs.declared.own_recalls.Own.{Own}
-use Rattle.site_core.specs.Quarantines.{Quarantine, held}
+use Rattle.site_core.specs.Quarantines.{IsLeastHolder}
 use Rattle.site_core.specs.Records.{Record}
 use Rattle.site_folders.specs.Refusals.{IsRefusal}
 use Rattle.site_recovery.specs.Laws.{captured_of}
@@ -26,14 +26,9 @@ use Rattle.trace_core.specs.Searches.{IsFound}
 use Rattle.trace_core.specs.Sites.{SiteEvents}
 use Rattle.trace_core.specs.declared.pairs.Pair.{Pair}
 
--- a recall under which the item is quarantined; or it is so under none
-abbrev pub IsHolderIn : Quarantine → List ℕ → Option Recall → Type 0
-IsHolderIn q item None = (r : Recall) → IsTrue (held q r item) → ⊥
-IsHolderIn q item (Some r) = IsTrue (held q r item)
-
--- so of a pair
+-- the least recall under which the pair is quarantined, if any
 abbrev pub IsHolder : World → Pair → Option Recall → Type 0
-IsHolder W p found = IsHolderIn (W p.site).quarantine p.item found
+IsHolder W p found = IsLeastHolder (W p.site).quarantine p.item found
 
 -- the pairs in their order, each with such a recall
 abbrev pub AreHolders : World → List Pair → List MissedPair → Type 0

@@ -3,22 +3,22 @@
 ghost use Rattle.std.specs.Prelude.{◌≡◌, IfOk, OnOk};
 ghost use Rattle.site_recovery.specs.Checking.{records_at, world_at};
 ghost use Rattle.site_recovery.specs.FittingAt.{AreAllSites};
-ghost use Rattle.folder_questions.specs.Missed.{AddsHolder, AreHolders, AreMissedBy, IsHolder, IsHolderIn, TellsAll, TellsOne};
+ghost use Rattle.folder_questions.specs.Missed.{AddsHolder, AreHolders, AreMissedBy, IsHolder, TellsAll, TellsOne};
 
 use crate::asked::{recall_at, record_of};
 use event_json::{SiteNo, Sites};
 use frame_core::RecallId;
 use gap_core::{Reached, missed_of, reached_from, untold_shipments};
 use recall_outcomes::{CommandRefusal, MissedPair, MissedReach, Outcome};
-use site_core::{Quarantine, SiteState};
+use site_core::SiteState;
 use site_folders::{Question, refusal};
 use site_recovery::{captured, own_recall};
 use std::alloc::{AllocError, Global};
 use trace_core::Pair;
 
 /// What the recall misses that a text names: the pairs that its root reaches by the packings of all sites that are
-/// known where the goods went, and not by the sites' own ones; each with a recall that holds it, if one does; and
-/// what so left the traced sites.
+/// known where the goods went, and not by the sites' own ones; each with the least recall that holds it, if one does;
+/// and what so left the traced sites.
 #[derive(Drop)]
 pub struct MissedOf<'a> {
     pub recall: &'a str,
@@ -38,9 +38,9 @@ impl Question for MissedOf<'_> {
 
     ghost asks = { λ q sites recall. AsksRecall q.recall.now sites recall };
 
-    // All pairs that the recall's root reaches by what is known of packings and not by the sites' own ones, each with a
-    // recall under which it is quarantined, or none exactly where there is none, and all shipments that so left the
-    // traced sites; or `UnknownRecall` exactly where no site began the recall.
+    // All pairs that the recall's root reaches by what is known of packings and not by the sites' own ones, each with
+    // the least recall under which it is quarantined, or none exactly where there is none, and all shipments that so
+    // left the traced sites; or `UnknownRecall` exactly where no site began the recall.
     ghost answers = { λ q recall rs outcome. AnswersMissed rs recall q.coded outcome };
 
     fn read(&self, alloc: Global, sites: &Sites) -> Result<Result<RecallId, Outcome>, AllocError> {
@@ -102,7 +102,7 @@ fn tell_if_held(alloc: Global, missed: &MissedPair, reached: &mut Reached) -> Re
     }
 }
 
-/// Pairs, each with a recall that holds it.
+/// Pairs, each with the least recall that holds it.
 fn with_holders(
     alloc: Global,
     records: &[&SiteState],
@@ -117,7 +117,7 @@ fn with_holders(
     Ok(found)
 }
 
-/// Adds a pair with a recall that holds it.
+/// Adds a pair with the least recall that holds it.
 fn push_holder(
     alloc: Global,
     records: &[&SiteState],
@@ -133,24 +133,12 @@ fn push_holder(
     Ok(())
 }
 
-/// A recall under which a pair is quarantined.
+/// The least recall under which a pair is quarantined.
 fn holder(records: &[&SiteState], pair: &Pair) -> Option<RecallId>
     ensures { IsHolder (world_at records.now) pair.now result }
 {
     match record_of(records, pair.site) {
-        Some(state) => holder_in(state.quarantine(), pair),
+        Some(state) => state.quarantine().least_holder(&pair.item),
         None => None,
     }
-}
-
-/// A recall under which a pair's item is quarantined at one site.
-fn holder_in(quarantine: &Quarantine, pair: &Pair) -> Option<RecallId>
-    ensures { IsHolderIn quarantine.now pair.now.item result }
-{
-    for (recall, items) in quarantine.by_recall() {
-        if items.contains(&pair.item) {
-            return Some(*recall);
-        }
-    }
-    None
 }

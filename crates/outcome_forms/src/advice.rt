@@ -29,10 +29,11 @@ pub(crate) fn advice(outcome: &Outcome) -> Option<&'static str> {
         Outcome::Withheld => Some(
             "note: nothing was sent; have those sites capture the packings, which `recall packs` prints, and run again, or run without `--unless-gaps`\n",
         ),
-        Outcome::Audited { recalls, coded: _ } => or_none(
-            recalls.is_empty(),
-            "note: the records of the sites are consistent, and no recall was begun\n",
-        ),
+        Outcome::Audited {
+            recalls,
+            ended,
+            coded: _,
+        } => or_none(recalls.is_empty(), no_recall(*ended)),
         Outcome::Gaps { gaps, coded: _ } => or_none(
             gaps.packed.lines.len() > 0,
             "note: past the site that shipped such a container on, a recall finds nothing of what others packed into it: before one reaches it, have that site capture the packing, which `recall packs` prints\n",
@@ -50,6 +51,15 @@ pub(crate) fn advice(outcome: &Outcome) -> Option<&'static str> {
             "note: nothing of the document was kept, and `recall capture --each` keeps its other events: if the goods have left, capture what the site that took them wrote, and start a recall of the item there\n",
         ),
         _ => None,
+    }
+}
+
+/// That no recall was begun: by records that are consistent, or that may be copies that were taken one after another.
+fn no_recall(ended: bool) -> &'static str {
+    if ended {
+        "note: no recall was begun\n"
+    } else {
+        "note: the records of the sites are consistent, and no recall was begun\n"
     }
 }
 

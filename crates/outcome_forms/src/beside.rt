@@ -7,6 +7,7 @@ use crate::advice::advice;
 use crate::fault_json::{fault_json, note_lines};
 use crate::fault_texts::{bare_line, fault_text};
 use crate::forms::Form;
+use crate::input_sentences::InputSentences;
 use crate::notes::{inside_all_text, notes_text, places_text, untraced_text};
 use crate::sentences::sentences;
 use event_json::Untraced;
@@ -41,6 +42,21 @@ fn explain<E: Write>(alloc: Global, form: Form, outcome: &Outcome, errors: &mut 
             errors,
             sentences_of(alloc, outcome),
         ),
+        Form::Json => {}
+    }
+}
+
+/// Writes what the refusals of several inputs mean, where that isn't printed as JSON.
+pub fn write_sentences<E: Write>(
+    alloc: Global,
+    form: Form,
+    sentences: &InputSentences,
+    errors: &mut E,
+)
+    ensures { AppendsText (E.contents errors.old) (E.contents errors.new) }
+{
+    match form {
+        Form::Text | Form::Csv | Form::GuardedCsv | Form::Dot => say(errors, sentences.text(alloc)),
         Form::Json => {}
     }
 }

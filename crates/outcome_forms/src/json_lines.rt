@@ -45,7 +45,11 @@ pub(crate) fn outcome_values(
             quarantined,
             messages,
         } => one(alloc, would_json(alloc, *quarantined, *messages)?),
-        Outcome::Audited { recalls, coded: _ } => values(alloc, sites, recalls.as_slice()),
+        Outcome::Audited {
+            recalls,
+            ended: _,
+            coded: _,
+        } => values(alloc, sites, recalls.as_slice()),
         Outcome::Inconsistent(misfit) => one(alloc, misfit_json(alloc, sites, *misfit)?),
         Outcome::Covered(found) => values(alloc, sites, found.as_slice()),
         Outcome::Gaps { gaps, coded: _ } => one(alloc, gaps_json(alloc, sites, gaps)?),

@@ -15,6 +15,7 @@ mod fault_json;
 mod fault_texts;
 mod forms;
 mod gap_json;
+mod input_sentences;
 mod json_lines;
 pub mod laws;
 mod missed_json;
@@ -30,8 +31,9 @@ mod step_json;
 mod values;
 mod writing;
 
-pub use beside::{write_beside, write_fault, write_noted};
+pub use beside::{write_beside, write_fault, write_noted, write_sentences};
 pub use fault_texts::{failure_line, fault_line};
 pub use forms::Form;
+pub use input_sentences::InputSentences;
 pub use shown_texts::shown;
 pub use writing::{write_input, write_outcome, write_totals};

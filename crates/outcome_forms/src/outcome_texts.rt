@@ -52,7 +52,11 @@ pub(crate) fn outcome_text(
             quarantined,
             messages,
         } => return format!(in alloc; "would recall new {quarantined} messages {messages}\n"),
-        Outcome::Audited { recalls, coded: _ } => {
+        Outcome::Audited {
+            recalls,
+            ended: _,
+            coded: _,
+        } => {
             for audited in recalls {
                 push_audited(alloc, &mut text, sites, audited)?;
             }

@@ -197,8 +197,8 @@ statuses_tell (outcomes.Waiting detail coded) =
     five_or_done (outcomes.Waiting detail coded) (coded && is_open detail.status) refl (λ no. no) (λ no. no)
     (λ e. let (asked, found) = and_also coded (is_open detail.status) e in (asked, not_true detail.status.ended found))
     (λ (asked, is). also_and coded (is_open detail.status) asked (ap not is))
-statuses_tell (outcomes.Audited recalls coded) =
-    of_audit (outcomes.Audited recalls coded) (list_any is_amiss recalls.items) (coded && list_any is_unjudged recalls.items) refl (λ no. no)
+statuses_tell (outcomes.Audited recalls ended coded) =
+    of_audit (outcomes.Audited recalls ended coded) (list_any is_amiss recalls.items) (coded && list_any is_unjudged recalls.items) refl (λ no. no)
     (λ e. let (audited, within, found) = list_any_witness is_amiss recalls.items e in (audited, within, wrong_of audited audited.verdict refl found))
     (λ (audited, within, is). list_any_member is_amiss recalls.items audited within (amiss_of audited is))
     (λ none e. let (asked, audited, within, found) = asked_any is_unjudged coded recalls.items e in

@@ -33,7 +33,7 @@ IsWrong audited = (p : Pair) × (missing : Bool) × (audited.verdict ≡ Some (D
 
 -- an audit found a discrepancy: in a recall, or between the records
 abbrev pub IsAmiss : Outcome → Type 0
-IsAmiss (outcomes.Audited recalls coded) = (audited : AuditedRecall) × Contains recalls.items audited × IsWrong audited
+IsAmiss (outcomes.Audited recalls ended coded) = (audited : AuditedRecall) × Contains recalls.items audited × IsWrong audited
 IsAmiss (outcomes.Inconsistent misfit) = ⊤
 IsAmiss other = ⊥
 
@@ -58,7 +58,7 @@ TellsOpen (outcomes.Waiting detail coded) = (coded ≡ true) × IsOpen detail.st
 TellsOpen (outcomes.Gaps gaps coded) = (coded ≡ true) × HasGap gaps
 TellsOpen (outcomes.Missed r missed coded) = (coded ≡ true) × HasMissed missed
 TellsOpen (outcomes.Ran recalls coded) = (coded ≡ true) × (recall : StartedRecall) × Contains recalls.items recall × (recall.ended ≡ false)
-TellsOpen (outcomes.Audited recalls coded) =
+TellsOpen (outcomes.Audited recalls ended coded) =
     ((audited : AuditedRecall) → Contains recalls.items audited → IsWrong audited → ⊥)
     × (coded ≡ true) × (audited : AuditedRecall) × Contains recalls.items audited × (audited.verdict ≡ None)
 TellsOpen outcomes.Withheld = ⊤

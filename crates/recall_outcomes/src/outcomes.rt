@@ -143,10 +143,12 @@ pub enum Outcome {
         quarantined: u64,
         messages: u64,
     },
-    /// The records are consistent, and each recall was audited.
+    /// The records are consistent, or may be copies that were taken one after another, and each recall was audited.
     Audited {
         /// By site and then by number.
         recalls: Vec<AuditedRecall>,
+        /// Whether they may be such copies, of which nothing says that they are consistent.
+        ended: bool,
         /// Whether the program's status tells that one is open.
         coded: bool,
     },
@@ -260,7 +262,11 @@ impl Outcome {
                 quarantined: _,
                 messages: _,
             } => 0,
-            Outcome::Audited { recalls, coded } => audit_status(recalls.as_slice(), *coded),
+            Outcome::Audited {
+                recalls,
+                ended: _,
+                coded,
+            } => audit_status(recalls.as_slice(), *coded),
             Outcome::Inconsistent(_) => 4,
             Outcome::Covered(_) => 0,
             Outcome::Gaps { gaps, coded } => { if *coded && has_gaps(gaps) { 5 } else { 0 } }

@@ -41,6 +41,7 @@ complete -c recall -n '__fish_seen_subcommand_from report' -l help -d 'Print hel
 complete -c recall -n __fish_use_subcommand -f -a audit -d 'Checks that the sites\' records are consistent, and each recall\'s quarantine'
 complete -c recall -n '__fish_seen_subcommand_from audit' -l json -d 'Print JSON, an object a line'
 complete -c recall -n '__fish_seen_subcommand_from audit' -l wait -x -d 'Wait so long for a site\'s file that another program has open, 0 to 86400 [default: 0]'
+complete -c recall -n '__fish_seen_subcommand_from audit' -l ended -d 'Compare ended recalls alone: of files that were copied one after another, behind their ends'
 complete -c recall -n '__fish_seen_subcommand_from audit' -l exit-code -d 'End with status 5 while a recall is open'
 complete -c recall -n '__fish_seen_subcommand_from audit' -l help -d 'Print help'
 complete -c recall -n __fish_use_subcommand -f -a trace -d 'Traces an item to where it went, or with `--back` to where it came from, without a recall'

@@ -82,7 +82,7 @@ pub returns-in_ok-ask-in-Audit-clause-led : goal.returns-in_ok-ask-in-Audit-clau
 returns-in_ok-ask-in-Audit-clause-led g c =
     rw c.in-Audit.is
     (noted_led g.F.Files.does
-    (AsksAll {Q = ⊤} {A = Outcome × Notes} g.K.SiteKeeper.shown g.K.SiteKeeper.stored c.in-Audit.folder.now (λ sites told. ⊥) (λ sites asked. ⊤) (λ asked rs told. AnswersAudit rs c.in-Audit.coded told.0 told.1))
+    (AsksAll {Q = ⊤} {A = Outcome × Notes} g.K.SiteKeeper.shown g.K.SiteKeeper.stored c.in-Audit.folder.now (λ sites told. ⊥) (λ sites asked. ⊤) (λ asked rs told. AnswersAudit rs c.in-Audit.ended c.in-Audit.coded told.0 told.1))
     c.args.files.now c.ask-in-Audit.new.files c.in_ok-ask-in-Audit.field-0 c.with_notes-in-Audit.result c.with_notes-in-Audit.ensures.sites c.with_notes-in-Audit.ensures.outcome c.with_notes-in-Audit.ensures.notes c.in_ok-ask-in-Audit.ensures.answered)
 
 pub returns-in_ok-ask-in-Trace-clause-led : goal.returns-in_ok-ask-in-Trace-clause-led

@@ -12,6 +12,6 @@ returns c = λ world recalls coded told recall root none one sound audited begun
     let rs = records world in
     let all = all_sites rs one sound in
     every_recall_can_end world recall root
-    (record { places = λ s below. (all s below).place; fits = subst (Fits (world_of rs)) (sym none) audited.1 })
-    (record { one = one; sound = sound; await = none_in_vain rs audited.3.0 })
+    (record { places = λ s below. (all s below).place; fits = subst (Fits (world_of rs)) (sym none) audited.0 })
+    (record { one = one; sound = sound; await = none_in_vain rs audited.2.0 })
     begun numbers

@@ -2,7 +2,7 @@ use Rattle.std.proofs.Common.{[], ap, codes, ◌∙◌}
 use Rattle.std.specs.Option.{unwrap_or}
 use Rattle.clap.specs.Words.{found_of}
 use Rattle.clap.proofs.WalkLemmas.{first_value-rows}
-use Rattle.command_line.proofs.command_lines.text_of.Goals as goal
+use Rattle.command_line.proofs.folder_words.text_of.Goals as goal
 
 pub returns-in-Some : goal.returns-in-Some
 returns-in-Some c = ap (λ o. unwrap_or o []) (c.in-Some.ensures ∙ first_value-rows (found_of c.args.given.now) (codes "text"))

@@ -1,7 +1,7 @@
 use Rattle.std.proofs.Common.{codes, refl, sym, ◌∙◌}
 use Rattle.clap.specs.Words.{found_of}
 use Rattle.clap.proofs.WalkLemmas.{first_value-rows}
-use Rattle.command_line.proofs.command_lines.items_command.Goals as goal
+use Rattle.command_line.proofs.folder_words.items_command.Goals as goal
 
 pub returns-in_ok-spelling-in-Some : goal.returns-in_ok-spelling-in-Some
 returns-in_ok-spelling-in-Some c =

@@ -1,7 +1,7 @@
 use Rattle.std.proofs.Common.{codes, refl, sym, ◌∙◌}
 use Rattle.clap.specs.Words.{found_of}
 use Rattle.clap.proofs.WalkLemmas.{first_value-rows}
-use Rattle.command_line.proofs.command_lines.gaps_command.Goals as goal
+use Rattle.command_line.proofs.folder_words.status_command.Goals as goal
 
 pub returns-in-Some : goal.returns-in-Some
 returns-in-Some c = (refl, c.requires, sym (c.in-Some.ensures ∙ first_value-rows (found_of c.args.given.now) (codes "recall")), c.is_set-coded.ensures)
