@@ -7,9 +7,9 @@
 A claim is the `//` lines directly above a clause of a contract, or above a ghost member of an impl. It stands for that
 clause and for those behind it, up to the next claim; a line `//` alone parts two claims of one clause. Of the clauses above
 the first claim the doc comment's first sentence is said, of a law its first paragraph. Behind `Not covered:` stands what
-the clauses leave open. A clause is named where the claim is, in the source, and a function without a claim isn't listed.
+the clauses leave open. A clause and its file are named where the claim is, in the source, and a function without a claim isn't listed.
 
-Laws are listed by their names, which say in short what they state; those of the crates in IN_WORDS stand in their words.
+Laws are counted, with the file that states them in words; those of the crates in IN_WORDS stand here in their words.
 """
 import glob
 import os
@@ -23,7 +23,7 @@ CLAUSE = re.compile(r' *(?:ensures|requires|ghost) ?(\w*) ?(?:= )?\{')
 REQUIRED = re.compile(r' *requires\b')
 BLOCK = re.compile(r'(?:pub )?(?:trait (\w+)|impl\b(?:<.*?> (?=\w))?(?:.* for )?\s*(\w+))')
 # The crates whose laws make up the theorem.
-IN_WORDS = ('site_recovery', 'world_core', 'wire_core', 'command_line')
+IN_WORDS = ('site_recovery', 'world_core', 'command_line')
 
 
 def read(path):
@@ -161,14 +161,12 @@ def page(crate):
                 ones.append((one, claims))
     if not public and not laws:
         return None
-    out = [f'# `{crate}`: [claims](../PROOFS.md#how-to-read-the-claims)', '']
-    for path, ones in [*public.items(), *laws.items()]:
-        if path in laws and crate not in IN_WORDS:
-            title = stem(path).capitalize().replace('_', ' ')
-            out += [f'[{title}](../../{path}): `{", ".join(one.title for one, _ in ones)}`', '']
-        else:
-            out += [f'## {stem(path)}', *(line for one, claims in ones for line in entry(one, claims)), '']
-    return '\n'.join(out)
+    out = [line for ones in public.values() for one, claims in ones for line in entry(one, claims)]
+    if laws and crate in IN_WORDS:
+        out += ['', 'Laws:', '', *(line for ones in laws.values() for one, claims in ones for line in entry(one, claims))]
+    elif laws:
+        out += ['', 'Laws: ' + ', '.join(f'{len(ones)} in `src/{stem(path)}.rt`' for path, ones in laws.items())]
+    return '\n'.join([f'# Claims of {crate}', '', *out[not out[0]:], ''])
 
 
 def main():

@@ -15,7 +15,7 @@ ROOT = os.path.join(os.path.dirname(os.path.abspath(__file__)), '..')
 STATEMENT = 'world_core.specs.Laws.ComesOut'
 HEAD = """# The definitions of the headline
 
-What [the theorem](THEOREM.md#the-theorem) stands on: {count}. A contract says what a function does by such definitions: these have to be believed, all else is proved against them. `tests/statement.sh --text {statement}` prints them whole, in the reading order of the files below; comments above them say how they are read.
+What [the theorem](THEOREM.md#the-theorem) stands on: {count}. A contract says what a function does by such definitions: these have to be believed, all else is proved against them. `tests/statement.sh --text {statement}` prints them whole, in the reading order of the files below, each a [crate](../crates)'s `specs/<name>.antt`, with comments.
 
 They are written in antt: a function by cases on a value, or a relation as a type (`A × B` is "and", `⊎` is "or", `(x : A) × P` is "some x with P"). A text is the list of its bytes. Words of the kit's library, such as `All`, `Contains`, `lines`, are in its guide `CONTRACT_STYLE.md`. [`definitions.py`](definitions.py) makes this page.
 
@@ -36,8 +36,8 @@ def text():
         crate, file = path.removeprefix('crates/').removesuffix('.antt').split('/specs/')
         if not crates or crates[-1][0] != crate:
             crates.append((crate, []))
-        crates[-1][1].append(f'[{file}](../{path})')
-    lines = [f'- `{crate}`: {", ".join(names)}\n' for crate, names in crates]
+        crates[-1][1].append(file)
+    lines = [f'- {crate}: {", ".join(names)}\n' for crate, names in crates]
     return HEAD.format(count=last.split(': ', 1)[1], statement=STATEMENT) + ''.join(lines)
 
 

@@ -14,7 +14,7 @@ HERE = os.path.dirname(os.path.abspath(__file__))
 ROWS = [
     [None, None, None, ("recall_cli", "p", "program, machine's files"), None],
     [None, None, ("command_line", "p", "words of a command line"), None, None],
-    [None, ("folder_commands", "p", "captures, starts, runs"),
+    [("frame_lines", "p", "frames as lines"), ("folder_commands", "p", "captures, starts, runs"),
      ("folder_questions", "p", "reports, traces, audits"), None, None],
     [("recall_sim", "p", "scripts alone"), None, ("site_folders", "p", "folder of the sites' files"),
      ("outcome_forms", "p", "words and JSON"), None],
@@ -38,6 +38,7 @@ ROWS = [
 # to the right, and where in the gap.
 BETWEEN = {
     ("command_line", "script_core"): (1, -5),
+    ("frame_lines", "recall_text"): (1, 0),
     ("folder_commands", "document_lint"): (1, 5),
     ("recall_outcomes", "gap_core"): (3, 5),
     ("recall_outcomes", "item_spellings"): (3, -5),
