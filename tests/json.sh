@@ -92,9 +92,12 @@ printf '{"type":"ObjectEvent","eventID":"e","eventTime":"2024-05-01T08:00:00Z","
 tells 0 '{"captured":1,"known":0,"skipped":0}' '{"note":"1 destination is no traced site: what went there counts as outside"}' capture spelled plant spelling
 tells 0 '{"outside":[{"destination":"urn:epc:id:sgln:9521321.00003.0","item":"uri x","site":"plant"}],"pairs":[{"item":"uri x","site":"plant","trail":[{"item":"uri x","site":"plant"}]}],"root":{"item":"uri x","site":"plant"},"trace":"forward"}' '{"note":"the destination urn:epc:id:sgln:9521321.00003.0 may be shop-1, whose address https://id.gs1.org/414/9521321000032 names the same place"}' trace spelled plant x
 tells 1 '{"event":1,"fault":"Quantities","field":"quantityList","file":"quantities"}
+{"event":1,"fault":"Missing","field":"eventTime","file":"quantities"}
+{"event":1,"fault":"Missing","field":"eventTimeZoneOffset","file":"quantities"}
+{"event":1,"fault":"Missing","field":"action","file":"quantities"}
 {"event":1,"field":"destinationList","file":"aimless","warning":"ShipsNowhere"}
 {"event":1,"file":"aimless","warning":"NoEventID"}
-{"total":{"events":2,"faults":1,"warnings":2}}' '' lint "$chain/sites" quantities aimless
+{"total":{"events":2,"faults":4,"warnings":2}}' '' lint "$chain/sites" quantities aimless
 tells 1 '{"captured":1,"file":"aimless","known":0,"skipped":0}
 {"event":1,"field":"quantityList","file":"quantities","kind":"Quantities","refused":"Doc"}
 {"captured":1,"documents":2,"known":0,"refused":1,"skipped":0}' '{"note":"1 event of bizStep shipping has no destination: nothing is traced past it"}

@@ -19,6 +19,7 @@ use Rattle.event_json.specs.declared.doc_faults.DocFault.{DocFault}
 use Rattle.event_json.specs.declared.doc_faults.DocField.{DocField}
 use Rattle.event_json.specs.declared.doc_faults.DocField.TheVariants as fields
 use Rattle.event_json.specs.declared.doc_faults.Flaw.{Flaw}
+use Rattle.document_lint.specs.EventFaults.{event_faults}
 use Rattle.document_lint.specs.Findings.{at_number, event_findings, found_in, found_of, length_findings, losses, missed, names, near, nears, nears_of, parent_nears, strange, text_lint, told, value_lint}
 use Rattle.document_lint.specs.Laws.{FirstFaultRefuses, first_fault, refused_for}
 use Rattle.document_lint.specs.Locations.{or_outside, sites_meant, spelling, unlisted}
@@ -30,6 +31,7 @@ use Rattle.document_lint.specs.declared.findings.PlaceMember.{PlaceMember}
 use Rattle.document_lint.specs.declared.findings.PlaceMember.TheVariants.{ReadPoint, BizLocation}
 use Rattle.document_lint.specs.declared.findings.What.{What}
 use Rattle.document_lint.specs.declared.findings.What.TheVariants.{ShipsNowhere, Outside, NotShipped, NothingPacked, NoEventId, NearMiss, OtherPlace}
+use Rattle.document_lint.proofs.FirstFaults.{Lead, event_leads}
 
 -- none of this is a fault
 record NoFault (found : List What) : Type 0 where
@@ -129,14 +131,15 @@ behind_one first (Err fault) = refl
 listed_faults : (sites : List Site) (here : Option ℕ) (n : ℕ) (items : Items)
     → first_fault (flat_map (event_findings sites here) (enumerate_from n (in_order items))) ≡ fault_in (each (numbered_event sites) n items)
 listed_faults sites here n no_items = refl
-listed_faults sites here n (item d ds) = by (event_of sites d) (listed_faults sites here (n + 1) ds)
+listed_faults sites here n (item d ds) = by (event_of sites d) (event_leads sites d) (listed_faults sites here (n + 1) ds)
   where
-    by : (read : Result (Option Content) Flaw) → first_fault (flat_map (event_findings sites here) (enumerate_from (n + 1) (in_order ds))) ≡ fault_in (each (numbered_event sites) (n + 1) ds)
+    by : (read : Result (Option Content) Flaw) → Lead (event_faults d) read → first_fault (flat_map (event_findings sites here) (enumerate_from (n + 1) (in_order ds))) ≡ fault_in (each (numbered_event sites) (n + 1) ds)
         → first_fault (at_number n (found_of sites here d (at_event n read)) ++ flat_map (event_findings sites here) (enumerate_from (n + 1) (in_order ds)))
         ≡ fault_in (at_event n read >>= λ first. each (numbered_event sites) (n + 1) ds >>= λ rest. Ok (first ∷ rest))
-    by (Err flaw) rest = refl
-    by (Ok None) rest = rest ∙ sym (behind_one None (each (numbered_event sites) (n + 1) ds))
-    by (Ok (Some e)) rest =
+    by (Err flaw) lead rest =
+        ap (λ (faults : List What). first_fault (at_number n faults ++ flat_map (event_findings sites here) (enumerate_from (n + 1) (in_order ds)))) lead.1
+    by (Ok None) lead rest = rest ∙ sym (behind_one None (each (numbered_event sites) (n + 1) ds))
+    by (Ok (Some e)) lead rest =
         (kept_event sites here d e).passed n (flat_map (event_findings sites here) (enumerate_from (n + 1) (in_order ds))) ∙ rest
         ∙ sym (behind_one (Some e) (each (numbered_event sites) (n + 1) ds))
 

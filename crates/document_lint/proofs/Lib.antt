@@ -2,8 +2,12 @@ pub mod Alone
 pub mod Apart
 pub mod ApartLaws
 pub mod Cuts
+pub mod EventFaultLaws
 pub mod FaultLaws
+pub mod FirstFaults
 pub mod FloatFree
+pub mod LackLaws
 pub mod LocationLaws
+pub mod Named
 pub mod NearLaws
 pub mod SiteLists

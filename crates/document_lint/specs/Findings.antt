@@ -1,4 +1,4 @@
--- What a linter finds in a document: of each event its fault, or what is strange about it.
+-- What a linter finds in a document: of each event its faults, or what is strange about it.
 use Rattle.std.specs.Prelude.{◌≡◌, ℕ, Bool, IsUtf8, if◌then◌else◌, List, [], ◌∷◌, ◌++◌, Option, Some, None, Result, Ok, Err, codes, bytes_eq, map, option_and_then, is_some, ⊤}
 use Rattle.std.specs.List.{enumerate_from, flat_map}
 use Rattle.serde_json.specs.Data.{Data, Items, array, item, member, no_items, no_members, object, string}
@@ -15,6 +15,7 @@ use Rattle.event_json.specs.declared.doc_faults.DocFault.{DocFault}
 use Rattle.event_json.specs.declared.doc_faults.DocFaultKind.TheVariants as kinds
 use Rattle.event_json.specs.declared.doc_faults.DocField.{DocField}
 use Rattle.event_json.specs.declared.doc_faults.DocField.TheVariants as fields
+use Rattle.document_lint.specs.EventFaults.{event_faults}
 use Rattle.document_lint.specs.Locations.{unlisted}
 use Rattle.document_lint.specs.LostGoods.{is_unshipped, packs_nothing, ships_nowhere}
 use Rattle.document_lint.specs.NearMisses.{near_text}
@@ -79,9 +80,9 @@ strange sites here d e = losses sites d e.body ++ (names e.id ++ (nears e.body +
 abbrev pub is_event : Data → Bool
 is_event d = is_some (option_and_then type_named (type_text d))
 
--- its fault, that it is skipped, or what is strange about it
+-- its faults, that it is skipped, or what is strange about it
 abbrev pub found_of : List Site → Option ℕ → Data → Result (Option Content) DocFault → List What
-found_of sites here d (Err fault) = Fault fault.field fault.kind ∷ []
+found_of sites here d (Err fault) = event_faults d
 found_of sites here d (Ok None) = Skipped (skipped_type d) ∷ []
 found_of sites here d (Ok (Some e)) = strange sites here d e
 

@@ -1,8 +1,10 @@
+pub mod EventFaults
 pub mod Findings
 pub mod Laws
 pub mod Lines
 pub mod Locations
 pub mod LostGoods
+pub mod MemberFaults
 pub mod NearMisses
 pub mod OtherPlaces
 pub mod Splitting

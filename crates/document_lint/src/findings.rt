@@ -23,7 +23,7 @@ pub enum PlaceMember {
 /// What is wrong with an event or a document, or strange about an event.
 #[derive(Debug, Drop)]
 pub enum What {
-    /// It can't be read: the first fault of the event, or a fault of the document itself.
+    /// It can't be read: a fault of a member of the event, or of the document itself.
     Fault {
         field: DocField,
         kind: DocFaultKind,

@@ -1,10 +1,25 @@
 //! Laws of linting, each named by a function with an empty body whose contract is the law.
 
-ghost use Rattle.document_lint.specs.Laws.{AloneIsRead, EventsMakeTheDocument, FirstFaultRefuses, LocationsAreSpelled, NearMissesSpellNone, SpellingsBeginSo};
+ghost use Rattle.document_lint.specs.Laws.{AloneIsRead, EventsMakeTheDocument, FaultsStandAlone, FirstFaultRefuses, LacksAreTold, LocationsAreSpelled, MembersAreTold, NearMissesSpellNone, SpellingsBeginSo};
 
 /// A document is refused for the first fault that is found in it, and read where none is found.
 pub fn first_fault_refuses()
     ensures { FirstFaultRefuses }
+{}
+
+/// A fault of an event refuses it as long as its member stays, and what would refuse it once others are mended is told.
+pub fn faults_stand_alone()
+    ensures { FaultsStandAlone }
+{}
+
+/// The faults of an event are of its members, of each at most one, in the order of a capture's checks.
+pub fn members_are_told()
+    ensures { MembersAreTold }
+{}
+
+/// A half or a parent is told to be missing exactly where it is known to be.
+pub fn lacks_are_told()
+    ensures { LacksAreTold }
 {}
 
 /// The item of a text is a near miss where the text begins as one of an SGTIN or an SSCC and spells none.

@@ -10,6 +10,7 @@ ghost use Rattle.event_json.specs.declared.doc_faults.DocField.TheVariants as fi
 ghost use Rattle.event_json.specs.declared.doc_faults.DocFaultKind.TheVariants as kinds;
 ghost use Rattle.document_lint.specs.Findings.{IsLint, at_number, event_findings, fault_finding, found_of, is_event, length_findings, text_lint, value_lint, without_list};
 
+use crate::event_faults::push_event_faults;
 use crate::event_lists::{event_list, is_event, whole};
 use crate::findings::{Finding, Lint, Listing, What};
 use crate::strange_events::{push_strange, skipped_type};
@@ -22,14 +23,14 @@ use std::alloc::{AllocError, Global};
 
 /// What is wrong with a document in the JSON form of GS1 EPCIS 2.0, an EPCISDocument or one bare event, and what is
 /// strange about its events, with destinations looked up among the sites. An event that can't be read is reported with
-/// its first fault. A document without a fault is one that `read_document` of `event_json` reads. Where the site that
-/// is to capture it is named, it is told of events that happened at another one.
+/// all its faults, one for each of its members. A document without a fault is one that `read_document` of `event_json`
+/// reads. Where the site that is to capture it is named, it is told of events that happened at another one.
 ///
 /// # Errors
 /// Where memory runs out.
 #[tactic(auto, unfolding(crate::specs::Findings::text_lint))]
 pub fn lint_document(alloc: Global, bytes: &[u8], listing: &Listing<'_>) -> Result<Lint, AllocError>
-    // Not covered: what is told after the first fault, and which warnings there are, has no law above its definition.
+    // Not covered: which warnings there are has no law above its definition.
     ensures { IfOk result (IsLint listing.now.sites.now listing.now.here bytes.now) }
 {
     match Value::from_slice(alloc, bytes) {
@@ -159,17 +160,14 @@ fn push_at(findings: &mut Vec<Finding>, number: u64, found: Vec<What>) -> Result
     Ok(())
 }
 
-/// The fault of an event, that it is skipped, or what is strange about it.
+/// The faults of an event, that it is skipped, or what is strange about it.
 fn found_of(alloc: Global, listing: &Listing<'_>, value: &Value) -> Result<Vec<What>, AllocError>
     ensures { IfOk result (λ found. found.items ≡ found_of listing.now.sites.now listing.now.here
         (view value.now) (numbered_event listing.now.sites.now 1 (view value.now))) }
 {
     let mut found = Vec::new(alloc);
     match read_alone(alloc, listing.sites, value)? {
-        Err(fault) => found.push(What::Fault {
-            field: fault.field,
-            kind: fault.kind,
-        })?,
+        Err(_) => push_event_faults(&mut found, value)?,
         Ok(None) => found.push(What::Skipped(skipped_type(value)))?,
         Ok(Some(event)) => push_strange(alloc, &mut found, listing, value, &event)?,
     }

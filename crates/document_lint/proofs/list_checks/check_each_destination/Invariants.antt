@@ -1,0 +1,13 @@
+use Rattle.std.proofs.Common.{◌≡◌, ◌+◌, map, take, drop}
+use Rattle.serde_json.specs.View.{items_view}
+use Rattle.event_json.specs.ItemLists.{destination_of}
+use Rattle.event_json.specs.Lent.{destination_in}
+use Rattle.event_json.specs.Members.{each}
+use Rattle.event_json.proofs.Each.{after}
+use Rattle.document_lint.proofs.list_checks.check_each_destination.Given as goal
+
+-- what was found so far and is found of the rest is all of it
+abbrev pub invariant-loop-value : goal.invariant-loop-value
+invariant-loop-value l =
+    after (map destination_in (take l.value-index l.list)) (each (λ _. destination_of) (l.value-index + 1) (items_view (drop l.value-index l.list)))
+    ≡ each (λ _. destination_of) 1 (items_view l.list)
