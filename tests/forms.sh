@@ -35,6 +35,7 @@ RECALL = os.environ["RECALL"]
 EXAMPLES = os.path.join(os.environ["HERE"], "examples", "dairy")
 FRONT = ["recall", "site", "item", "gtin", "serial", "sscc"]
 BACK = ["kind", "destination"]
+EVIDENCE = ["event_id", "event_time", "carrier"]
 compared = 0
 
 
@@ -67,21 +68,32 @@ def beside(pair, back):
     return trail[1] if back else trail[-2]
 
 
-def rows_of(told):
-    """The rows that the JSON of a report or a trace asks for, the names of the columns first."""
+def event_of(pair, back):
+    """The event in the row of a pair: the first one of the step beside it."""
+    steps = pair.get("events")
+    if not steps:
+        return None
+    step = steps[0] if back else steps[-1]
+    return step["event"] if step["kind"] == "shipped" else step["input"]
+
+
+def rows_of(told, events=False):
+    """The rows that the JSON of a report or a trace asks for, the names of the columns first; with the events, where they are told."""
     back = told.get("trace") == "back"
     about = told.get("recall", "")
     step = "to" if back else "from"
-    rows = [FRONT + [step + "_site", step + "_item"] + BACK]
+    rows = [FRONT + [step + "_site", step + "_item"] + BACK + EVIDENCE * events]
 
-    def row(site, item, other, kind, destination=""):
+    def row(site, item, other, kind, destination="", event=None, carrier=""):
         near = [other["site"], other["item"]] if other else ["", ""]
-        rows.append([about, site, item, *numbers(item), *near, kind, destination])
+        shown = [event["id"] or "", event["time"] or ""] if event else ["", ""]
+        rows.append([about, site, item, *numbers(item), *near, kind, destination] + [*shown, carrier] * events)
 
     for pair in told["pairs"]:
-        row(pair["site"], pair["item"], beside(pair, back), "held" if about else "found")
+        row(pair["site"], pair["item"], beside(pair, back), "held" if about else "found", event=event_of(pair, back))
     for out in told.get("outside", []):
-        row(out["site"], out["item"], None, "outside", out["destination"])
+        carrier = out.get("carrier", out["item"])
+        row(out["site"], out["item"], None, "outside", out["destination"], out.get("event"), "" if carrier == out["item"] else carrier)
     for origin in told.get("origins", []):
         row(origin["site"], origin["item"], None, "origin")
     return rows
@@ -168,12 +180,14 @@ def compare(sites, *words):
     global compared
     compared += 1
     told = json.loads(ask(*words, "--json")[0])
-    rows = ask(*words, "--csv")[0]
-    same(f"{words}: CR LF", rows.count(b"\r\n"), len(rows_of(told)))
-    same(f"{words}: rows", list(csv.reader(io.StringIO(rows.decode(), newline=""), strict=True)), rows_of(told))
-    guarded = [["'" + it if it[:1] in tuple("=+-@\t\r") else it for it in row] for row in rows_of(told)]
-    rows = ask(*words, "--csv-guarded")[0]
-    same(f"{words}: guarded rows", list(csv.reader(io.StringIO(rows.decode(), newline=""), strict=True)), guarded)
+    for more in ([], ["--events"]):
+        wanted = rows_of(json.loads(ask(*words, *more, "--json")[0]), bool(more))
+        rows = ask(*words, *more, "--csv")[0]
+        same(f"{words}: CR LF", rows.count(b"\r\n"), len(wanted))
+        same(f"{words}: rows", list(csv.reader(io.StringIO(rows.decode(), newline=""), strict=True)), wanted)
+        guarded = [["'" + it if it[:1] in tuple("=+-@\t\r") else it for it in row] for row in wanted]
+        rows = ask(*words, *more, "--csv-guarded")[0]
+        same(f"{words}: guarded rows", list(csv.reader(io.StringIO(rows.decode(), newline=""), strict=True)), guarded)
     dot = ask(*words, "--dot")[0]
     same(f"{words}: picture", picture(dot.decode()), pictured(told, sites))
     if shutil.which("dot"):

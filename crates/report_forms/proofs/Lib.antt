@@ -1,3 +1,4 @@
+pub mod EvidenceLaws
 pub mod Guarding
 pub mod Parts
 pub mod Replacing

@@ -1,6 +1,6 @@
 -- A report or a trace in parts.
-use Rattle.std.specs.Prelude.{List, [], ◌∷◌, Option, Some, None, drop, map, option_map, slice_get}
-use Rattle.std.specs.Option.{unwrap_or}
+use Rattle.std.specs.Prelude.{Bool, List, [], ◌∷◌, Option, Some, None, drop, map, option_map, slice_get}
+use Rattle.std.specs.Option.{is_some, unwrap_or}
 use Rattle.frame_core.specs.Numbers.{Recall}
 use Rattle.report_core.specs.declared.outside.OutsideShipment.{OutsideShipment}
 use Rattle.report_core.specs.declared.outside_events.OutsideEvent.{OutsideEvent}
@@ -31,9 +31,11 @@ pub record OutsidePart : Type 0 where
   pub shipment : OutsideShipment
   pub event : Option OutsideEvent
 
+-- `told`: whether the events are told
 pub record Account : Type 0 where
   pub title : Title
   pub root : Pair
+  pub told : Bool
   pub parts : List Part
   pub outside : List OutsidePart
   pub origins : List Pair
@@ -79,19 +81,20 @@ abbrev pub held_way : Option (List Pair) → Way
 held_way None = Unknown
 held_way (Some trail) = From trail
 
-abbrev pub account_of : Title → Pair → List Part → List OutsidePart → List Pair → Account
-account_of title root parts outside origins = record { title = title; root = root; parts = parts; outside = outside; origins = origins }
+abbrev pub account_of : Title → Pair → Bool → List Part → List OutsidePart → List Pair → Account
+account_of title root told parts outside origins = record { title = title; root = root; told = told; parts = parts; outside = outside; origins = origins }
 
 abbrev pub report_account : Recall → RecallReport → Option ShownEvents → Account
 report_account r report events =
-    account_of (titles.Recall r report.ended) report.root (parts_of report.pairs (map held_way report.trails) (steps_in events)) (outside_parts report.outside (outside_in events)) []
+    account_of (titles.Recall r report.ended) report.root (is_some events) (parts_of report.pairs (map held_way report.trails) (steps_in events)) (outside_parts report.outside (outside_in events)) []
 
 abbrev pub trace_account : Trace → Option ShownEvents → Account
 trace_account trace events =
-    account_of titles.Forward trace.root (parts_of trace.pairs (map From trace.trails) (steps_in events)) (outside_parts trace.outside (outside_in events)) []
+    account_of titles.Forward trace.root (is_some events) (parts_of trace.pairs (map From trace.trails) (steps_in events)) (outside_parts trace.outside (outside_in events)) []
 
+-- The events of each trail, of which there is one at least, the root's own; none where they aren't told.
 abbrev pub back_account : BackTrace → List (List StepEvents) → Account
-back_account trace events = account_of titles.Back trace.root (parts_of trace.pairs (map To trace.trails) events) [] trace.origins
+back_account trace events = account_of titles.Back trace.root (is_some (slice_get events 0)) (parts_of trace.pairs (map To trace.trails) events) [] trace.origins
 
 -- ---- of the structs
 

@@ -6,9 +6,9 @@ use Rattle.csv.specs.Writing.{default_writer, field_text}
 use Rattle.epc_core.specs.Items.{behind, parted}
 use Rattle.event_json.specs.Sites.{Site}
 use Rattle.recall_text.specs.Words.{name_at, recall_text}
-use Rattle.report_core.specs.declared.outside.OutsideShipment.{OutsideShipment}
 use Rattle.trace_core.specs.declared.pairs.Pair.{Pair}
-use Rattle.report_forms.specs.Accounts.{Account, Part, shipments_of, way_beside}
+use Rattle.report_forms.specs.Accounts.{Account, OutsidePart, Part, way_beside}
+use Rattle.report_forms.specs.Evidence.{if_told, origin_evidence, outside_evidence, part_evidence}
 use Rattle.report_forms.specs.declared.accounts.Title.{Title}
 use Rattle.report_forms.specs.declared.accounts.Title.TheVariants as titles
 
@@ -35,9 +35,10 @@ abbrev pub Fields : Type 0
 Fields = List (List ℕ)
 
 -- the names of the columns
-abbrev pub columns : List ℕ → List ℕ → Fields
-columns beside_site beside_item =
-    codes "recall" ∷ codes "site" ∷ codes "item" ∷ codes "gtin" ∷ codes "serial" ∷ codes "sscc" ∷ beside_site ∷ beside_item ∷ codes "kind" ∷ codes "destination" ∷ []
+abbrev pub columns : List ℕ → List ℕ → Bool → Fields
+columns beside_site beside_item told =
+    codes "recall" ∷ codes "site" ∷ codes "item" ∷ codes "gtin" ∷ codes "serial" ∷ codes "sscc" ∷ beside_site ∷ beside_item ∷ codes "kind" ∷ codes "destination"
+    ∷ if_told told (codes "event_id" ∷ codes "event_time" ∷ codes "carrier" ∷ [])
 
 abbrev pub name_beside : List Site → Option Pair → List ℕ
 name_beside sites None = []
@@ -47,28 +48,29 @@ abbrev pub item_beside : Option Pair → List ℕ
 item_beside None = []
 item_beside (Some p) = p.item
 
--- an item at a site, the pair beside it, and where it went
-abbrev pub row_of : List Site → List ℕ → ℕ → List ℕ → Option Pair → List ℕ → List ℕ → Fields
-row_of sites recall site item beside kind destination =
-    recall ∷ name_at sites site ∷ item ∷ gtin_of item ∷ serial_of item ∷ sscc_of item ∷ name_beside sites beside ∷ item_beside beside ∷ kind ∷ destination ∷ []
+-- an item at a site, the pair beside it, where it went, and what the event behind that is
+abbrev pub row_of : List Site → List ℕ → ℕ → List ℕ → Option Pair → List ℕ → List ℕ → Fields → Fields
+row_of sites recall site item beside kind destination evidence =
+    recall ∷ name_at sites site ∷ item ∷ gtin_of item ∷ serial_of item ∷ sscc_of item ∷ name_beside sites beside ∷ item_beside beside ∷ kind ∷ destination ∷ evidence
 
--- a pair, and the pair beside it on its trail
-abbrev pub part_row : List Site → List ℕ → List ℕ → Part → Fields
-part_row sites recall kind part = row_of sites recall part.pair.site part.pair.item (way_beside part.way) kind []
+-- a pair, the pair beside it on its trail, and, where the events are told, that of the step between them
+abbrev pub part_row : List Site → List ℕ → List ℕ → Bool → Part → Fields
+part_row sites recall kind told part = row_of sites recall part.pair.site part.pair.item (way_beside part.way) kind [] (part_evidence told part)
 
--- a shipment to a place that is no traced site
-abbrev pub outside_row : List Site → List ℕ → OutsideShipment → Fields
-outside_row sites recall x = row_of sites recall x.site x.item None (codes "outside") x.destination
+-- a shipment to a place that is no traced site, and, where the events are told, its event
+abbrev pub outside_row : List Site → List ℕ → Bool → OutsidePart → Fields
+outside_row sites recall told x =
+    row_of sites recall x.shipment.site x.shipment.item None (codes "outside") x.shipment.destination (outside_evidence told x)
 
 -- a pair that no pair is related to
-abbrev pub origin_row : List Site → List ℕ → Pair → Fields
-origin_row sites recall p = row_of sites recall p.site p.item None (codes "origin") []
+abbrev pub origin_row : List Site → List ℕ → Bool → Pair → Fields
+origin_row sites recall told p = row_of sites recall p.site p.item None (codes "origin") [] (origin_evidence told)
 
 -- the columns; those of the pair beside it are named by its place on the trail
-abbrev pub columns_of : Title → Fields
-columns_of (titles.Recall r ended) = columns (codes "from_site") (codes "from_item")
-columns_of titles.Forward = columns (codes "from_site") (codes "from_item")
-columns_of titles.Back = columns (codes "to_site") (codes "to_item")
+abbrev pub columns_of : Title → Bool → Fields
+columns_of (titles.Recall r ended) told = columns (codes "from_site") (codes "from_item") told
+columns_of titles.Forward told = columns (codes "from_site") (codes "from_item") told
+columns_of titles.Back told = columns (codes "to_site") (codes "to_item") told
 
 -- the recall of a report
 abbrev pub recall_field : List Site → Title → List ℕ
@@ -83,9 +85,9 @@ kind_of other = codes "found"
 -- Behind the columns' names each pair has a row, in order, and then each shipment that left, and each origin.
 abbrev pub account_rows : List Site → Account → List Fields
 account_rows sites a =
-    columns_of a.title
-    ∷ map (part_row sites (recall_field sites a.title) (kind_of a.title)) a.parts
-    ++ (map (outside_row sites (recall_field sites a.title)) (shipments_of a) ++ map (origin_row sites (recall_field sites a.title)) a.origins)
+    columns_of a.title a.told
+    ∷ map (part_row sites (recall_field sites a.title) (kind_of a.title) a.told) a.parts
+    ++ (map (outside_row sites (recall_field sites a.title) a.told) a.outside ++ map (origin_row sites (recall_field sites a.title) a.told) a.origins)
 
 -- ---- texts that a spreadsheet might take for a formula
 

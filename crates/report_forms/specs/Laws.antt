@@ -1,9 +1,25 @@
 -- What rows and pictures are, in the words of those that read them.
-use Rattle.std.specs.Prelude.{◌≡◌, ◌==◌, ◌⊎◌, ℕ, Bool, true, false, List, [], ◌∷◌, ◌++◌, Option, Some, None, codes, if◌then◌else◌, option_map}
+use Rattle.std.specs.Prelude.{◌≡◌, ◌==◌, ◌⊎◌, ℕ, Bool, true, false, List, [], ◌∷◌, ◌++◌, Option, Some, None, codes, if◌then◌else◌, map, option_map, take}
+use Rattle.std.specs.List.{AllZip}
 use Rattle.epc_core.specs.Items.{sgtin_key, sscc_key, uri_key, with_first}
 use Rattle.epc_core.specs.Numbers.{IsChecked}
-use Rattle.report_forms.specs.Csv.{gtin_of, guarded, serial_of, sscc_of}
+use Rattle.event_json.specs.Sites.{Site}
+use Rattle.frame_core.specs.Numbers.{Recall}
+use Rattle.report_core.specs.TrailEvents.{TellsStep, pairs_shown, steps_of}
+use Rattle.report_core.specs.declared.reports.RecallReport.{RecallReport}
+use Rattle.report_core.specs.declared.traces.BackTrace.{BackTrace}
+use Rattle.report_core.specs.declared.traces.Trace.{Trace}
+use Rattle.report_core.specs.declared.trail_events.ShownSteps.{ShownSteps}
+use Rattle.report_core.specs.declared.trail_events.ShownSteps.TheVariants.{Each, First, Last}
+use Rattle.report_core.specs.declared.trail_events.StepEvents.{StepEvents}
+use Rattle.report_core.specs.declared.with_events.ShownEvents.{ShownEvents}
+use Rattle.trace_core.specs.Sites.{SiteEvents}
+use Rattle.trace_core.specs.declared.pairs.Pair.{Pair}
+use Rattle.report_forms.specs.Accounts.{back_account, report_account, trace_account, way_beside}
+use Rattle.report_forms.specs.Csv.{account_rows, gtin_of, guarded, serial_of, sscc_of}
 use Rattle.report_forms.specs.Dot.{dot_text, with_entities}
+use Rattle.report_forms.specs.Evidence.{step_beside}
+use Rattle.report_forms.specs.declared.accounts.Way.TheVariants.{From, To}
 
 -- ---- rows
 
@@ -31,6 +47,42 @@ FormulasAreGuarded =
     ((text : List ℕ) → BeginsFormula (guarded text) → ⊥)
     × ((text : List ℕ) → BeginsFormula text → guarded text ≡ codes "'" ++ text)
     × ((text : List ℕ) → (BeginsFormula text → ⊥) → guarded text ≡ text)
+
+-- ---- the events behind rows
+
+-- it is told of the step between the two
+abbrev pub IsOfStep : List SiteEvents → Pair → Pair → Option StepEvents → Type 0
+IsOfStep sites p q None = ⊥
+IsOfStep sites p q (Some step) = TellsStep sites p q step
+
+-- along the trail the events are told of these steps
+abbrev pub AreTold : List SiteEvents → ShownSteps → List Pair → List StepEvents → Type 0
+AreTold sites shown trail told = AllZip (λ step. TellsStep sites step.0 step.1) (steps_of (pairs_shown shown trail)) told
+
+-- A trail that ends with the step from p to q has in q's row p and the events of this step, whether those of all steps are told or of the last one.
+abbrev pub LastStepsAreInRows : Type 0
+LastStepsAreInRows =
+    (sites : List SiteEvents) (before : List Pair) (p q : Pair) (told : List StepEvents)
+    → (way_beside (From (before ++ p ∷ q ∷ [])) ≡ Some p)
+    × (AreTold sites Each (before ++ p ∷ q ∷ []) told → IsOfStep sites p q (step_beside (From (before ++ p ∷ q ∷ [])) told))
+    × (AreTold sites Last (before ++ p ∷ q ∷ []) told → IsOfStep sites p q (step_beside (From (before ++ p ∷ q ∷ [])) told))
+
+-- So has in a trace back p's row, where a trail begins with the step, whether those of all steps are told or of the first one.
+abbrev pub FirstStepsAreInRows : Type 0
+FirstStepsAreInRows =
+    (sites : List SiteEvents) (after : List Pair) (p q : Pair) (told : List StepEvents)
+    → (way_beside (To (p ∷ q ∷ after)) ≡ Some q)
+    × (AreTold sites Each (p ∷ q ∷ after) told → IsOfStep sites p q (step_beside (To (p ∷ q ∷ after)) told))
+    × (AreTold sites First (p ∷ q ∷ after) told → IsOfStep sites p q (step_beside (To (p ∷ q ∷ after)) told))
+
+-- Where the events are told, a row's first ten fields are those that it has without.
+abbrev pub TenFieldsStay : Type 0
+TenFieldsStay =
+    ((sites : List Site) (r : Recall) (report : RecallReport) (events : ShownEvents)
+    → map (take 10) (account_rows sites (report_account r report (Some events))) ≡ account_rows sites (report_account r report None))
+    × ((sites : List Site) (trace : Trace) (events : ShownEvents) → map (take 10) (account_rows sites (trace_account trace (Some events))) ≡ account_rows sites (trace_account trace None))
+    × ((sites : List Site) (trace : BackTrace) (first : List StepEvents) (events : List (List StepEvents))
+    → map (take 10) (account_rows sites (back_account trace (first ∷ events))) ≡ account_rows sites (back_account trace []))
 
 -- ---- pictures
 

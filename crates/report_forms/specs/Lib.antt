@@ -1,4 +1,5 @@
 pub mod Accounts
 pub mod Csv
 pub mod Dot
+pub mod Evidence
 pub mod Laws

@@ -2,7 +2,7 @@
 //! shipment out of the traced sites with the event that is told of it.
 
 ghost use Rattle.std.specs.Prelude.{◌≡◌, IfOk, length, option_map, slice_get};
-ghost use Rattle.std.specs.Option.{unwrap_or};
+ghost use Rattle.std.specs.Option.{is_some, unwrap_or};
 ghost use Rattle.report_forms.specs.Accounts.{back_account, outside_in, outside_part_of, part_of, report_account};
 ghost use Rattle.report_forms.specs.Accounts.{shipments_of, steps_in, trace_account, way_beside, way_pairs, ways_in};
 ghost use Rattle.report_forms.specs.declared.accounts.Way.TheVariants.{Unknown};
@@ -117,6 +117,7 @@ impl<'a> AnyTrails<'a> {
 pub struct Account<'a> {
     title: Title,
     root: &'a Pair,
+    told: bool,
     pairs: &'a [Pair],
     trails: AnyTrails<'a>,
     events: &'a [Sequence<StepEvents>],
@@ -130,7 +131,7 @@ impl<'a> Model for Account<'a> {
 
     ghost Value = { Account };
 
-    ghost view = { λ a. account_of a.title a.root.now
+    ghost view = { λ a. account_of a.title a.root.now a.told
         (parts_of a.pairs.now (ways_in a.trails) a.events.now)
         (outside_parts a.outside.now a.outside_events.now) a.origins.now };
 }
@@ -151,6 +152,7 @@ impl<'a> Account<'a> {
                 ended: report.ended,
             },
             root: &report.root,
+            told: are_told(events),
             pairs: report.pairs.as_slice(),
             trails: AnyTrails::Held(&report.trails),
             events: steps_in(events),
@@ -167,6 +169,7 @@ impl<'a> Account<'a> {
         Account {
             title: Title::Forward,
             root: &trace.root,
+            told: are_told(events),
             pairs: trace.pairs.as_slice(),
             trails: AnyTrails::Led(&trace.trails),
             events: steps_in(events),
@@ -183,6 +186,7 @@ impl<'a> Account<'a> {
         Account {
             title: Title::Back,
             root: &trace.root,
+            told: are_steps_told(events),
             pairs: trace.pairs.as_slice(),
             trails: AnyTrails::Leading(&trace.trails),
             events,
@@ -203,6 +207,13 @@ impl<'a> Account<'a> {
         ensures { result.now ≡ self.now.root }
     {
         self.root
+    }
+
+    /// Whether the events are told, those behind the steps and those behind the shipments.
+    pub fn tells_events(&self) -> bool
+        ensures { result ≡ self.now.told }
+    {
+        self.told
     }
 
     /// How many parts there are.
@@ -258,6 +269,26 @@ impl<'a> Account<'a> {
         ensures { result.now ≡ self.now.origins }
     {
         self.origins
+    }
+}
+
+/// Whether events are told.
+fn are_told(events: Option<&ShownEvents>) -> bool
+    ensures { result ≡ is_some (option_map (λ e. e.now) events.entry) }
+{
+    match events {
+        None => false,
+        Some(_) => true,
+    }
+}
+
+/// Whether events of trails are, each of which has a list of them, be it empty.
+fn are_steps_told(events: &[Sequence<StepEvents>]) -> bool
+    ensures { result ≡ is_some (slice_get events.now 0) }
+{
+    match events_at(events, 0) {
+        None => false,
+        Some(_) => true,
     }
 }
 

@@ -1,25 +1,26 @@
 //! A report and a trace as rows of comma-separated fields, for a spreadsheet.
 
-ghost use Rattle.std.specs.Prelude.{◌≡◌, ◌++◌, ◌<◌, [], ◌∷◌, Bool, IfOk, OnOk, length, map, option_map, string_bytes};
+ghost use Rattle.std.specs.Prelude.{◌≡◌, ◌++◌, ◌<◌, [], ◌∷◌, Bool, IfOk, OnOk, codes, length, map, option_map, string_bytes};
 ghost use Rattle.std.specs.Option.{option_map_or};
 ghost use Rattle.epc_core.specs.Items.{parted};
 ghost use Rattle.std.specs.List.{flat_map, list_any};
 ghost use Rattle.csv.specs.Reading.{default_config, records};
 ghost use Rattle.csv.specs.Writing.{default_writer, escaped, needs_byte, needs_quotes, quoted};
-ghost use Rattle.report_forms.specs.Accounts.{part_of};
-ghost use Rattle.report_forms.specs.Csv.{account_rows, columns_of, cell, cell_line, cell_lines, csv_field, gtin_of, is_formula, item_beside, kind_of, name_beside, origin_row, outside_row, part_row, recall_field, row_of, serial_of, sscc_of, table_rows};
+ghost use Rattle.report_forms.specs.Accounts.{outside_part_of, part_of};
+ghost use Rattle.report_forms.specs.Csv.{account_rows, columns, columns_of, cell, cell_line, cell_lines, csv_field, gtin_of, is_formula, item_beside, kind_of, name_beside, origin_row, outside_row, part_row, recall_field, row_of, serial_of, sscc_of, table_rows};
 
-use crate::accounts::{Account, Part, Title};
+use crate::accounts::{Account, OutsidePart, Part, Title};
+use crate::evidence::{carrier_of, event_beside, event_outside, id_of, if_told, time_of};
 use crate::replaced::push_replaced;
 use epc_core::Epc;
 use event_json::{SiteNo, Sites};
 use recall_text::telling::{name_of, recall_text};
-use report_core::OutsideShipment;
 use std::alloc::{AllocError, Global};
 use trace_core::Pair;
 
 /// A report or a trace as rows, in which a reader of RFC 4180 finds just these: a first one of the columns' names, one
-/// for each pair, and one for each shipment out of the traced sites, or for each pair that no pair is related to.
+/// for each pair, and one for each shipment out of the traced sites, or for each pair that no pair is related to. Where
+/// the events are told, the last three fields of a row tell that of its step or its shipment.
 ///
 /// With `guard` a field that a spreadsheet might take for a formula has an apostrophe before it, and any other is as it
 /// was.
@@ -48,27 +49,50 @@ fn table_text(
 {
     let recall = recall_field(alloc, sites, account.title())?;
     let recall = recall.as_str();
-    let mut text = String::from_str(alloc, columns(account.title()))?;
+    let mut text = String::from_str(alloc, columns(account.title(), account.tells_events()))?;
     push_parts(alloc, &mut text, sites, recall, account, guard)?;
-    push_outsides(alloc, &mut text, sites, recall, account.outside(), guard)?;
-    push_origins(alloc, &mut text, sites, recall, account.origins(), guard)?;
+    push_outsides(alloc, &mut text, sites, recall, account, guard)?;
+    push_origins(alloc, &mut text, sites, recall, account, guard)?;
     Ok(text)
 }
 
 /// The names of the columns, as a line.
-#[tactic(auto, unfolding(crate::specs::Csv::cell_line, crate::specs::Csv::csv_line, crate::specs::Csv::csv_field))]
-fn columns(title: Title) -> &'static str
-    ensures { (guard : Bool) → result.now ≡ cell_line guard (columns_of title) }
+fn columns(title: Title, told: bool) -> &'static str
+    ensures { (guard : Bool) → result.now ≡ cell_line guard (columns_of title told) }
 {
     match title {
         Title::Recall {
             recall: _,
             ended: _,
-        } => "recall,site,item,gtin,serial,sscc,from_site,from_item,kind,destination\r\n",
-        Title::Forward => {
-            "recall,site,item,gtin,serial,sscc,from_site,from_item,kind,destination\r\n"
-        }
-        Title::Back => "recall,site,item,gtin,serial,sscc,to_site,to_item,kind,destination\r\n",
+        } => columns_from(told),
+        Title::Forward => columns_from(told),
+        Title::Back => columns_to(told),
+    }
+}
+
+/// Those of a table with the pairs before.
+#[tactic(auto, unfolding(crate::specs::Csv::cell_line, crate::specs::Csv::csv_line, crate::specs::Csv::csv_field))]
+fn columns_from(told: bool) -> &'static str
+    ensures { (guard : Bool) → result.now
+        ≡ cell_line guard (columns (codes "from_site") (codes "from_item") told) }
+{
+    if told {
+        "recall,site,item,gtin,serial,sscc,from_site,from_item,kind,destination,event_id,event_time,carrier\r\n"
+    } else {
+        "recall,site,item,gtin,serial,sscc,from_site,from_item,kind,destination\r\n"
+    }
+}
+
+/// Those of a table with the pairs behind.
+#[tactic(auto, unfolding(crate::specs::Csv::cell_line, crate::specs::Csv::csv_line, crate::specs::Csv::csv_field))]
+fn columns_to(told: bool) -> &'static str
+    ensures { (guard : Bool) → result.now
+        ≡ cell_line guard (columns (codes "to_site") (codes "to_item") told) }
+{
+    if told {
+        "recall,site,item,gtin,serial,sscc,to_site,to_item,kind,destination,event_id,event_time,carrier\r\n"
+    } else {
+        "recall,site,item,gtin,serial,sscc,to_site,to_item,kind,destination\r\n"
     }
 }
 
@@ -107,14 +131,16 @@ fn push_parts(
     guard: bool,
 ) -> Result<(), AllocError>
     ensures { OnOk result (string_bytes text.new ≡ string_bytes text.old ++ cell_lines guard
-        (map (part_row sites.now recall.now (kind_of account.now.title)) account.now.parts)) }
+        (map (part_row sites.now recall.now (kind_of account.now.title) account.now.told)
+        account.now.parts)) }
 {
     let kind = kind_of(account.title());
+    let told = account.tells_events();
     for place in 0..account.len() {
         let Some(part) = account.part(place) else {
             unreachable!()
         };
-        push_part(alloc, text, sites, recall, kind, &part, guard)?;
+        push_part(alloc, text, sites, recall, kind, told, &part, guard)?;
     }
     Ok(())
 }
@@ -126,13 +152,16 @@ fn push_part(
     sites: &Sites,
     recall: &str,
     kind: &str,
+    told: bool,
     part: &Part<'_>,
     guard: bool,
 ) -> Result<(), AllocError>
     ensures { OnOk result (string_bytes text.new ≡ string_bytes text.old ++ cell_line guard
-        (part_row sites.now recall.now kind.now (part_of part.now))) }
+        (part_row sites.now recall.now kind.now told (part_of part.now))) }
 {
     let pair = part.pair;
+    let event = event_beside(part);
+    let evidence = [id_of(event), time_of(event), ""];
     push_row(
         alloc,
         text,
@@ -143,6 +172,7 @@ fn push_part(
         part.way.beside(),
         kind,
         "",
+        if_told(told, &evidence),
         guard,
     )
 }
@@ -153,27 +183,52 @@ fn push_outsides(
     text: &mut String,
     sites: &Sites,
     recall: &str,
-    outside: &[OutsideShipment],
+    account: &Account<'_>,
     guard: bool,
 ) -> Result<(), AllocError>
     ensures { OnOk result (string_bytes text.new ≡ string_bytes text.old ++ cell_lines guard
-        (map (outside_row sites.now recall.now) outside.now)) }
+        (map (outside_row sites.now recall.now account.now.told) account.now.outside)) }
 {
-    for shipment in outside {
-        push_row(
-            alloc,
-            text,
-            sites,
-            recall,
-            shipment.site,
-            &shipment.item,
-            None,
-            "outside",
-            shipment.destination.as_str(),
-            guard,
-        )?;
+    let told = account.tells_events();
+    for place in 0..account.outside_len() {
+        let Some(part) = account.outside_part(place) else {
+            unreachable!()
+        };
+        push_outside(alloc, text, sites, recall, told, &part, guard)?;
     }
     Ok(())
+}
+
+/// Adds the row of a shipment out of the traced sites.
+fn push_outside(
+    alloc: Global,
+    text: &mut String,
+    sites: &Sites,
+    recall: &str,
+    told: bool,
+    part: &OutsidePart<'_>,
+    guard: bool,
+) -> Result<(), AllocError>
+    ensures { OnOk result (string_bytes text.new ≡ string_bytes text.old ++ cell_line guard
+        (outside_row sites.now recall.now told (outside_part_of part.now))) }
+{
+    let shipment = part.shipment;
+    let event = event_outside(part);
+    let carrier = carrier_of(alloc, &shipment.item, part.event)?;
+    let evidence = [id_of(event), time_of(event), carrier.as_str()];
+    push_row(
+        alloc,
+        text,
+        sites,
+        recall,
+        shipment.site,
+        &shipment.item,
+        None,
+        "outside",
+        shipment.destination.as_str(),
+        if_told(told, &evidence),
+        guard,
+    )
 }
 
 /// Adds a row for each pair that no pair is related to.
@@ -182,30 +237,48 @@ fn push_origins(
     text: &mut String,
     sites: &Sites,
     recall: &str,
-    origins: &[Pair],
+    account: &Account<'_>,
     guard: bool,
 ) -> Result<(), AllocError>
     ensures { OnOk result (string_bytes text.new ≡ string_bytes text.old ++ cell_lines guard
-        (map (origin_row sites.now recall.now) origins.now)) }
+        (map (origin_row sites.now recall.now account.now.told) account.now.origins)) }
 {
-    for origin in origins {
-        push_row(
-            alloc,
-            text,
-            sites,
-            recall,
-            origin.site,
-            &origin.item,
-            None,
-            "origin",
-            "",
-            guard,
-        )?;
+    let told = account.tells_events();
+    for origin in account.origins() {
+        push_origin(alloc, text, sites, recall, told, origin, guard)?;
     }
     Ok(())
 }
 
-/// Adds the row of an item at a site, with the pair beside it and where it went.
+/// Adds the row of a pair that no pair is related to.
+fn push_origin(
+    alloc: Global,
+    text: &mut String,
+    sites: &Sites,
+    recall: &str,
+    told: bool,
+    origin: &Pair,
+    guard: bool,
+) -> Result<(), AllocError>
+    ensures { OnOk result (string_bytes text.new ≡ string_bytes text.old ++ cell_line guard
+        (origin_row sites.now recall.now told origin.now)) }
+{
+    push_row(
+        alloc,
+        text,
+        sites,
+        recall,
+        origin.site,
+        &origin.item,
+        None,
+        "origin",
+        "",
+        if_told(told, &["", "", ""]),
+        guard,
+    )
+}
+
+/// Adds the row of an item at a site, with the pair beside it, where it went, and the evidence.
 fn push_row(
     alloc: Global,
     text: &mut String,
@@ -216,11 +289,12 @@ fn push_row(
     beside: Option<&Pair>,
     kind: &str,
     destination: &str,
+    evidence: &[&str],
     guard: bool,
 ) -> Result<(), AllocError>
     ensures { OnOk result (string_bytes text.new ≡ string_bytes text.old ++ cell_line guard
         (row_of sites.now recall.now site item.now (option_map (λ p. p.now) beside.entry) kind.now
-        destination.now)) }
+        destination.now (map (λ f. f.now) evidence.now))) }
 {
     let key = item.key(alloc)?;
     let other = item_beside(alloc, beside)?;
@@ -233,6 +307,7 @@ fn push_row(
         other.as_str(),
         kind,
         destination,
+        evidence,
         guard,
     )
 }
@@ -247,11 +322,13 @@ fn push_fields<'a>(
     other_key: &'a str,
     kind: &'a str,
     destination: &'a str,
+    evidence: &[&str],
     guard: bool,
 ) -> Result<(), AllocError>
     ensures { OnOk result (string_bytes text.new ≡ string_bytes text.old ++ cell_line guard
         (recall.now ∷ site.now ∷ key.now ∷ gtin_of key.now ∷ serial_of key.now ∷ sscc_of key.now
-        ∷ other_site.now ∷ other_key.now ∷ kind.now ∷ destination.now ∷ [])) }
+        ∷ other_site.now ∷ other_key.now ∷ kind.now ∷ destination.now
+        ∷ map (λ f. f.now) evidence.now)) }
 {
     let (gtin, serial) = trade_numbers(key);
     let rest = [
@@ -265,17 +342,27 @@ fn push_fields<'a>(
         kind,
         destination,
     ];
-    push_line(text, recall, &rest, guard)
+    push_line(text, recall, &rest, evidence, guard)
 }
 
 /// Adds a line of a field and others.
 #[tactic(auto, unfolding(crate::specs::Csv::cell_line, crate::specs::Csv::csv_line))]
-fn push_line(text: &mut String, first: &str, rest: &[&str], guard: bool) -> Result<(), AllocError>
+fn push_line(
+    text: &mut String,
+    first: &str,
+    rest: &[&str],
+    evidence: &[&str],
+    guard: bool,
+) -> Result<(), AllocError>
     ensures { OnOk result (string_bytes text.new ≡ string_bytes text.old ++ cell_line guard
-        (first.now ∷ map (λ f. f.now) rest.now)) }
+        (first.now ∷ (map (λ f. f.now) rest.now ++ map (λ f. f.now) evidence.now))) }
 {
     push_field(text, first, guard)?;
     for field in rest {
+        text.push(',')?;
+        push_field(text, field, guard)?;
+    }
+    for field in evidence {
         text.push(',')?;
         push_field(text, field, guard)?;
     }

@@ -1,6 +1,6 @@
 //! Laws of rows and pictures, each named by a function with an empty body whose contract is the law.
 
-ghost use Rattle.report_forms.specs.Laws.{FormulasAreGuarded, ItemsHaveNumbers, TextsReadBack};
+ghost use Rattle.report_forms.specs.Laws.{FirstStepsAreInRows, FormulasAreGuarded, ItemsHaveNumbers, LastStepsAreInRows, TenFieldsStay, TextsReadBack};
 
 /// A trade item has its GTIN and its serial number, a logistic unit its SSCC, and any other item none of them.
 pub fn items_have_numbers()
@@ -10,6 +10,21 @@ pub fn items_have_numbers()
 /// No guarded field begins as a formula does; one that did stands behind an apostrophe, and any other is as it was.
 pub fn formulas_are_guarded()
     ensures { FormulasAreGuarded }
+{}
+
+/// A row tells the events of the step between its pair and the pair before it.
+pub fn last_steps_are_in_rows()
+    ensures { LastStepsAreInRows }
+{}
+
+/// In a trace back it tells those of the step between its pair and the pair behind it.
+pub fn first_steps_are_in_rows()
+    ensures { FirstStepsAreInRows }
+{}
+
+/// Where the events are told, the first ten fields of a row are those that it has without.
+pub fn ten_fields_stay()
+    ensures { TenFieldsStay }
 {}
 
 /// No quote inside a text of a picture ends it.

@@ -5,6 +5,7 @@
 mod accounts;
 mod csv_tables;
 mod dot_graphs;
+mod evidence;
 pub mod laws;
 mod pictures;
 mod replaced;

@@ -5,4 +5,10 @@ use Rattle.report_forms.proofs.csv_tables.push_line.Given as goal
 -- the fields so far and those of the rest are all of them
 abbrev pub invariant-loop-field : goal.invariant-loop-field
 invariant-loop-field l =
-    string_bytes l.text ++ csv_rest (cells l.guard (map (λ f. f.now) (drop l.field-index l.rest))) ≡ string_bytes l.fn.text ++ (csv_field (cell l.guard l.first) ++ csv_rest (cells l.guard (map (λ f. f.now) l.rest)))
+    string_bytes l.text ++ csv_rest (cells l.guard (map (λ f. f.now) (drop l.field-index l.rest) ++ map (λ f. f.now) l.evidence))
+    ≡ string_bytes l.fn.text ++ (csv_field (cell l.guard l.first) ++ csv_rest (cells l.guard (map (λ f. f.now) l.rest ++ map (λ f. f.now) l.evidence)))
+
+abbrev pub invariant-loop-field-2 : goal.invariant-loop-field-2
+invariant-loop-field-2 l =
+    string_bytes l.text ++ csv_rest (cells l.guard (map (λ f. f.now) (drop l.field-index l.evidence)))
+    ≡ string_bytes l.fn.text ++ (csv_field (cell l.guard l.first) ++ csv_rest (cells l.guard (map (λ f. f.now) l.rest ++ map (λ f. f.now) l.evidence)))

@@ -4,4 +4,4 @@ use Rattle.report_forms.proofs.csv_tables.push_origins.Given as goal
 
 -- the rows so far
 abbrev pub invariant-loop-origin : goal.invariant-loop-origin
-invariant-loop-origin l = string_bytes l.text ≡ string_bytes l.fn.text ++ cell_lines l.guard (map (origin_row l.sites l.recall) (take l.origin-index l.origins))
+invariant-loop-origin l = string_bytes l.text ≡ string_bytes l.fn.text ++ cell_lines l.guard (map (origin_row l.sites l.recall l.account.told) (take l.origin-index l.account.origins))

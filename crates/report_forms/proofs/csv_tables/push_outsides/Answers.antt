@@ -1,12 +1,14 @@
-use Rattle.std.proofs.Common.{◌≡◌, ◌∙◌, ◌++◌, None, Some, ap, arith, codes, slice_get, string_bytes, sym}
-use Rattle.std.proofs.lemmas.Option.{slice_get-get_or}
-use Rattle.report_forms.specs.Csv.{cell_line, outside_row, row_of}
+use Rattle.std.proofs.Common.{◌∙◌, ◌++◌, ap, string_bytes, sym}
+use Rattle.report_forms.specs.Accounts.{outside_part_of}
+use Rattle.report_forms.specs.Csv.{cell_line, outside_row}
 use Rattle.report_forms.proofs.Parts.{one_row}
 use Rattle.report_forms.proofs.csv_tables.push_outsides.Goals as goal
 
-pub loop-shipment-preserved : goal.loop-shipment-preserved
-loop-shipment-preserved c =
-    let place = c.loop-shipment.shipment-index in
-    let x = c.shipment-item.result in
-    let at : slice_get c.args.outside.now place ≡ Some x = slice_get-get_or c.args.outside.now place x (omega (arith, c.loop-shipment-test.true)) ∙ ap Some (sym c.shipment-item.is) in
-    one_row c.args.guard (outside_row c.args.sites.now c.args.recall.now) c.args.outside.now place x _ _ _ at c.loop-shipment.invariant (c.in_ok-push_row.ensures ∙ ap (λ d. string_bytes c.loop-shipment.text ++ cell_line c.args.guard (row_of c.args.sites.now c.args.recall.now x.site x.item None (codes "outside") d)) c.as_str.ensures)
+pub loop-place-preserved : goal.loop-place-preserved
+loop-place-preserved c =
+    let sites = c.args.sites.now in
+    let recall = c.args.recall.now in
+    let a = c.args.account.now in
+    let part = outside_part_of c.in-Some.part in
+    one_row c.args.guard (outside_row sites recall a.told) a.outside c.loop-place.place part _ _ _ (sym c.in-Some.ensures) c.loop-place.invariant
+    (c.in_ok-push_outside.ensures ∙ ap (λ t. string_bytes c.loop-place.text ++ cell_line c.args.guard (outside_row sites recall t part)) c.tells_events-told.ensures)

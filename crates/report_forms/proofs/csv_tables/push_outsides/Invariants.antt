@@ -3,5 +3,5 @@ use Rattle.report_forms.specs.Csv.{cell_lines, outside_row}
 use Rattle.report_forms.proofs.csv_tables.push_outsides.Given as goal
 
 -- the rows so far
-abbrev pub invariant-loop-shipment : goal.invariant-loop-shipment
-invariant-loop-shipment l = string_bytes l.text ≡ string_bytes l.fn.text ++ cell_lines l.guard (map (outside_row l.sites l.recall) (take l.shipment-index l.outside))
+abbrev pub invariant-loop-place : goal.invariant-loop-place
+invariant-loop-place l = string_bytes l.text ≡ string_bytes l.fn.text ++ cell_lines l.guard (map (outside_row l.sites l.recall l.account.told) (take l.place l.account.outside))

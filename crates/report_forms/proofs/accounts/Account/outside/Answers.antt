@@ -1,5 +1,5 @@
 use Rattle.std.proofs.Common.{◌∙◌, ap, sym}
-use Rattle.report_forms.specs.Accounts.{Account, shipments_of}
+use Rattle.report_forms.specs.Accounts.{shipments_of}
 use Rattle.report_forms.proofs.Parts.{same_shipments}
 use Rattle.report_forms.proofs.accounts.Account.outside.Goals as goal
 
