@@ -230,18 +230,19 @@ def packs(folder, events):
     copy = f"{folder}.closed"
     shutil.copytree(folder, copy)
     names_in = lambda text: [json.loads(line)["epcisBody"]["eventList"][0]["eventID"] for line in text.splitlines()]
-    same(f"packs {folder}", names_in(ask("packs", folder)), [name for site in SITES for name in closing(site, events)])
+    same(f"packs {folder}", names_in(ask("packs", folder, "--dry-run")), [name for site in SITES for name in closing(site, events)])
     root = (SITES[0], sorted(set().union(*map(names, events[SITES[0]])))[0])
+    captured = []
     for site in SITES:
-        text = ask("packs", folder, "--site", site)
-        same(f"packs {folder} --site {site}", names_in(text), closing(site, events))
-        same(f"packs {folder} --site {site} --json", ask("packs", folder, "--site", site, "--json"), text)
-        with open(f"{copy}.packs", "w") as file:
-            file.write(text)
-        count = len(text.splitlines())
-        told = ask("capture", copy, site, "--lines", f"{copy}.packs").splitlines()[-1]
-        same(f"capture of packs {site}", told, f"documents {count} captured {count} known 0 skipped 0 refused 0")
-    same(f"packs {copy}", ask("packs", copy), "")
+        text = ask("packs", folder, "--site", site, "--dry-run")
+        wanted = closing(site, events)
+        same(f"packs {folder} --site {site}", names_in(text), wanted)
+        same(f"packs {folder} --site {site} --json", ask("packs", folder, "--site", site, "--dry-run", "--json"), text)
+        captured += [f"captured 1 known 0 skipped 0 {site} from {name[6:].rsplit('-', 1)[0]}" for name in wanted]
+        captured += [f"documents {len(wanted)} captured {len(wanted)} known 0 skipped 0 refused 0"] * bool(wanted)
+    told = ask("packs", copy).splitlines()
+    same(f"captured packs {copy}", [line.rsplit(" ", 2)[0] if line.startswith("captured") else line for line in told], captured)
+    same(f"packs {copy}", ask("packs", copy) + ask("packs", copy, "--dry-run"), "")
     same(f"gaps {copy}", ask("gaps", copy).splitlines()[-1].split(" used ")[0], "total packed 0 items 0")
     _, ways, _ = read_trace(ask("trace", copy, *root, "--brief"))
     same(f"trace {copy}", {way[0] for way in ways}, set(steps(relate(events, knowing(events))[0], root)))

@@ -8,8 +8,8 @@ use Rattle.site_core.specs.Records.{Record}
 use Rattle.recall_outcomes.specs.declared.faults.Fault.{Fault}
 use Rattle.recall_outcomes.specs.declared.outcomes.Output.{Output}
 use Rattle.site_folders.specs.FileCalls.{FileCall, Led}
-use Rattle.command_line.specs.CommandLines.{texts_of, AsksBatch, AsksFiles, AsksLint, AsksPacks, IsBad, AsksConvert}
-use Rattle.command_line.specs.Ends.{CommandEnds, Ends, SimRuns, Streams, TellsBatch, TellsLint, TellsPacks}
+use Rattle.command_line.specs.CommandLines.{texts_of, AsksBatch, AsksFiles, AsksLint, AsksPacks, AsksPlan, IsBad, AsksConvert}
+use Rattle.command_line.specs.Ends.{CommandEnds, Ends, SimRuns, Streams, TellsBatch, TellsLint, TellsPacks, TellsPlan}
 use Rattle.command_line.specs.Converting.{TellsConvert}
 use Rattle.command_line.specs.Leads.{FailsBy, LeadsTo}
 use Rattle.command_line.specs.declared.asked.Batch.{Batch}
@@ -18,7 +18,8 @@ use Rattle.command_line.specs.declared.asked.Terms.{Terms}
 use Rattle.command_line.specs.declared.convert_commands.ConvertFiles.{ConvertFiles}
 use Rattle.command_line.specs.declared.lint_commands.LintFiles.{LintFiles}
 use Rattle.command_line.specs.declared.pack_commands.PackFiles.{PackFiles}
-use Rattle.command_line.proofs.Words.{sim_is_no_batch, sim_is_no_convert, sim_is_no_files, sim_is_no_help, sim_is_no_lint, sim_is_no_packs, sim_is_not_bad}
+use Rattle.command_line.specs.declared.plan_commands.PlanCommand.{PlanCommand}
+use Rattle.command_line.proofs.Words.{sim_is_no_batch, sim_is_no_convert, sim_is_no_files, sim_is_no_help, sim_is_no_lint, sim_is_no_packs, sim_is_no_plan, sim_is_not_bad}
 
 module _ {F K G W : Type 0} (does : F → FileCall K → F → Type 0) (waits limits : F → ℕ → F → Type 0) (knows : F → List ℕ → List ℕ → Type 0) (shown : K → Option Record) (failed : K → ℕ) (may : K → Record → Type 0) (reopens : K → Result K (Unopened K) → Type 0) (gives_up : G → ℕ → ℕ → Type 0) (stored : K → Type 0) (contents : W → Option (List ℕ)) where
   pub ends_mistaken : (words : List (String Global)) (old new : F) (before after : Streams W) → IsBad (texts_of words) → new ≡ old
@@ -53,11 +54,17 @@ module _ {F K G W : Type 0} (does : F → FileCall K → F → Type 0) (waits li
   ends_packs words old new before after status files asked unread ends =
       inr (inr (inl (inr (inr (inl (record { files = files; asked = asked; unread = unread; ends = ends }))))))
 
+  pub ends_plan : (words : List (String Global)) (old new : F) (before after : Streams W) (status : ℕ) (command : PlanCommand) → AsksPlan (texts_of words) command → Keeps before.input after.input
+      → TellsPlan does waits shown may stored contents command old new before.output after.output status
+      → Ends does waits limits knows shown failed may reopens gives_up stored contents words old new before after status
+  ends_plan words old new before after status command asked unread ends =
+      inr (inr (inl (inr (inr (inr (inl (record { command = command; asked = asked; unread = unread; ends = ends })))))))
+
   pub ends_convert : (words : List (String Global)) (old new : F) (before after : Streams W) (status : ℕ) (files : ConvertFiles) → AsksConvert (texts_of words) files → Keeps before.input after.input
       → TellsConvert does limits contents files old new before.output after.output status
       → Ends does waits limits knows shown failed may reopens gives_up stored contents words old new before after status
   ends_convert words old new before after status files asked unread ends =
-      inr (inr (inl (inr (inr (inr (record { files = files; asked = asked; unread = unread; ends = ends }))))))
+      inr (inr (inl (inr (inr (inr (inr (record { files = files; asked = asked; unread = unread; ends = ends })))))))
 
   -- however it ends, the script was run where `sim` was asked for, or memory ran out before
   pub ends_sim : (words : List (String Global)) (old new : F) (before after : Streams W) (status : ℕ) → Ends does waits limits knows shown failed may reopens gives_up stored contents words old new before after status
@@ -67,7 +74,8 @@ module _ {F K G W : Type 0} (does : F → FileCall K → F → Type 0) (waits li
   ends_sim words old new before after status (inr (inr (inl (inl d)))) = λ name e. absurd (sim_is_no_batch (texts_of words) name d.batch d.asked e)
   ends_sim words old new before after status (inr (inr (inl (inr (inl d))))) = λ name e. absurd (sim_is_no_lint (texts_of words) name d.files d.asked e)
   ends_sim words old new before after status (inr (inr (inl (inr (inr (inl d)))))) = λ name e. absurd (sim_is_no_packs (texts_of words) name d.files d.asked e)
-  ends_sim words old new before after status (inr (inr (inl (inr (inr (inr d)))))) = λ name e. absurd (sim_is_no_convert (texts_of words) name d.files d.asked e)
+  ends_sim words old new before after status (inr (inr (inl (inr (inr (inr (inl d))))))) = λ name e. absurd (sim_is_no_plan (texts_of words) name d.command d.asked e)
+  ends_sim words old new before after status (inr (inr (inl (inr (inr (inr (inr d))))))) = λ name e. absurd (sim_is_no_convert (texts_of words) name d.files d.asked e)
   ends_sim words old new before after status (inr (inr (inr (inl helps)))) = λ name e. absurd (sim_is_no_help (texts_of words) name helps.0 e)
   ends_sim words old new before after status (inr (inr (inr (inr (inl bad))))) = λ name e. absurd (sim_is_not_bad (texts_of words) name bad.0 e)
   ends_sim words old new before after status (inr (inr (inr (inr (inr lacks))))) = λ name e. inr lacks

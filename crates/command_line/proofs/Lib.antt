@@ -15,3 +15,4 @@ pub mod LivedFolders
 pub mod LivedRows
 pub mod LivedRuns
 pub mod LivedEnds
+pub mod Planning

@@ -35,11 +35,11 @@ use Rattle.folder_commands.specs.Steps.{AtSite, BreaksCapture, BreaksStart, Capt
 use Rattle.folder_commands.proofs.RunLemmas.{RanOrNot, broke_or_not, unless_or_not}
 use Rattle.folder_commands.specs.declared.batches.BatchCame.{BatchCame}
 use Rattle.folder_commands.specs.declared.batches.BatchOutput.{BatchOutput}
-use Rattle.folder_commands.specs.declared.words.WordKind.{WordKind}
+use Rattle.folder_commands.specs.Words.{InputsFrom}
 use Rattle.command_line.specs.Lives.{ActTogether, FilesAreContinued, FilesAreLeft, IsOfSite}
 use Rattle.command_line.specs.UnknownItems.{AndWho, TellsBehind, TellsWho, is_unknown}
 use Rattle.command_line.proofs.Lived.{broke_off, taken_all, CameTo}
-use Rattle.command_line.proofs.LivedCommands.{acted_unchanged, all_ran, begun_quiet, broke_at, listed, one_reading, one_site, only_asked, stepped_at, two_reading, vain, words_quiet}
+use Rattle.command_line.proofs.LivedCommands.{acted_unchanged, all_ran, broke_at, from_begun_quiet, from_quiet, listed, one_reading, one_site, only_asked, stepped_at, two_reading, vain}
 use Rattle.command_line.proofs.LivedRows.{closed_same, opened_first}
 
 -- ---- questions
@@ -217,11 +217,11 @@ module _ {K : Type 0} (shown : K → Option Record) (may : K → Record → Type
 
   -- ---- several inputs
 
-  module _ {S : Type 0} (takes : S → List Site → List ℕ → InputOutcome → S → Type 0) (name : List ℕ) (kind : WordKind) (words : List (List ℕ)) where
-    taken_where : (text : List ℕ) (rest : List (FileCall K)) (found : Option ℕ) (heard hears : S) (came : BatchCame) → calls ≡ ReadFile (list_path folder) text ∷ rest → TakesWhere shown stored takes folder name kind words found sites heard hears came rest → ActTogether old new
+  module _ {S : Type 0} (takes : S → List Site → List ℕ → InputOutcome → S → Type 0) (name : List ℕ) (from : InputsFrom) where
+    taken_where : (text : List ℕ) (rest : List (FileCall K)) (found : Option ℕ) (heard hears : S) (came : BatchCame) → calls ≡ ReadFile (list_path folder) text ∷ rest → TakesWhere shown stored takes folder name from found sites heard hears came rest → ActTogether old new
     taken_where text rest None heard hears came is (refused, same, none) = read_alone text rest is none
     taken_where text rest (Some site) heard hears came is t =
-        one_site shown may opens stored folder sites old new many calls continued left site t.keeper t.kept t.record_before (ReadFile (list_path folder) text ∷ []) t.reads (one_reading K (list_path folder) text) (words_quiet kind words t.taken.inputs t.reads t.taken.read)
+        one_site shown may opens stored folder sites old new many calls continued left site t.keeper t.kept t.record_before (ReadFile (list_path folder) text ∷ []) t.reads (one_reading K (list_path folder) text) (from_quiet from t.taken.inputs t.reads t.taken.read)
         (is ∙ ap (λ l. ReadFile (list_path folder) text ∷ l) t.calls_are) t.opened
         (λ stands at. stands_in site t.record_before t.last.site t.kept stands (taken_all site takes sites _ t.taken.inputs t.last t.opened.shows.me t.taken.taken) t.shows at)
       where
@@ -229,14 +229,14 @@ module _ {K : Type 0} (shown : K → Option Record) (may : K → Record → Type
         stands_in site before last kept (Up r) came shows at = subst (λ (x : Record). CameTo site before (Up x)) (same_Some last r (sym shows ∙ at)) came
         stands_in site before last kept (Down r) came shows at = absurd (let z : Some last ≡ None = sym shows ∙ at.0 in cc)
 
-    pub batch_taken : (heard hears : S) (output : BatchOutput) → TakesAll shown stored takes folder name kind words heard hears output calls → ActTogether old new
+    pub batch_taken : (heard hears : S) (output : BatchOutput) → TakesAll shown stored takes folder name from heard hears output calls → ActTogether old new
     batch_taken heard hears output after =
-        taken_where after.text after.rest (named sites name) heard hears output.came after.calls_are (at_once (λ ss rest. (output.sites ≡ ss) × TakesWhere shown stored takes folder name kind words (named ss name) ss heard hears output.came rest) after).1
+        taken_where after.text after.rest (named sites name) heard hears output.came after.calls_are (at_once (λ ss rest. (output.sites ≡ ss) × TakesWhere shown stored takes folder name from (named ss name) ss heard hears output.came rest) after).1
 
-    pub batch_failed : (heard hears : S) (fault : Fault) → BatchFails shown stored takes folder name kind words may heard hears fault calls → ActTogether old new
+    pub batch_failed : (heard hears : S) (fault : Fault) → BatchFails shown stored takes folder name from may heard hears fault calls → ActTogether old new
     batch_failed heard hears fault (inl (ends, same)) = vain shown may opens stored folder sites old new many calls continued left fault ends
     batch_failed heard hears fault (inr after) =
-        let b = at_once (BreaksBatch shown stored takes folder name kind words may heard hears fault) after in
+        let b = at_once (BreaksBatch shown stored takes folder name from may heard hears fault) after in
         one_site shown may opens stored folder sites old new many calls continued left b.site b.keeper b.kept b.record_before (ReadFile (list_path folder) after.text ∷ []) b.reads (one_reading K (list_path folder) after.text)
-        (begun_quiet kind words (b.broke.first ++ b.broke.rest) b.reads b.broke.begun) (after.calls_are ∙ ap (λ l. ReadFile (list_path folder) after.text ∷ l) b.calls_are) b.opened
+        (from_begun_quiet from (b.broke.first ++ b.broke.rest) b.reads b.broke.begun) (after.calls_are ∙ ap (λ l. ReadFile (list_path folder) after.text ∷ l) b.calls_are) b.opened
         (λ stands at. broke_off b.site takes sites shown may _ _ b.kept hears fault b.reads stands b.opened.shows.me b.broke at)

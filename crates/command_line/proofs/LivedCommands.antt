@@ -27,7 +27,7 @@ use Rattle.site_folders.specs.Paths.{file_path, list_path}
 use Rattle.recall_text.specs.Words.{name_at}
 use Rattle.folder_commands.specs.Inputs.{Input}
 use Rattle.folder_commands.specs.Steps.{BreaksStep, StepsAt}
-use Rattle.folder_commands.specs.Words.{BeginsLines, BeginsWord, BeginsWords, IsUnread, ReadsLines, ReadsNone, ReadsWord, ReadsWords, reads_lines}
+use Rattle.folder_commands.specs.Words.{BeginsFrom, InputsFrom, ReadsFrom, Texts, Words, BeginsLines, BeginsWord, BeginsWords, IsUnread, ReadsLines, ReadsNone, ReadsWord, ReadsWords, reads_lines}
 use Rattle.folder_commands.specs.declared.words.WordKind.{WordKind}
 use Rattle.folder_commands.specs.declared.words.WordKind.TheVariants as kinds
 use Rattle.command_line.specs.Lives.{ActTogether, AllStandWhereLed, FilesAreContinued, FilesAreLeft, IsOwn}
@@ -92,7 +92,7 @@ module _ {K : Type 0} where
   word_quiet (kinds.Epc spelling) word given calls (are, is) = subst Quiet (sym is) tt
   word_quiet (kinds.EpcLines spelling) word given calls reads = reads_quiet _ word given calls reads
 
-  pub words_quiet : (kind : WordKind) (words : List (List ℕ)) (given : List Input) (calls : List (FileCall K)) → ReadsWords kind words given calls → Quiet calls
+  words_quiet : (kind : WordKind) (words : List (List ℕ)) (given : List Input) (calls : List (FileCall K)) → ReadsWords kind words given calls → Quiet calls
   unfolding IsReading
   words_quiet kind [] given calls (are, is) = subst Quiet (sym is) tt
   words_quiet kind (word ∷ more) given calls (first, rest, here, there, one, others, are, is) =
@@ -118,9 +118,18 @@ module _ {K : Type 0} where
   word_begun_quiet kinds.DocumentEvents word given calls begun = ⊎_elim (word_quiet kinds.DocumentEvents word given calls) (λ none. none_quiet word calls none.1) begun
   word_begun_quiet (kinds.Epc spelling) word given calls begun = ⊎_elim (word_quiet (kinds.Epc spelling) word given calls) (λ none. none_quiet word calls none.1) begun
 
-  pub begun_quiet : (kind : WordKind) (words : List (List ℕ)) (given : List Input) (calls : List (FileCall K)) → BeginsWords kind words given calls → Quiet calls
+  begun_quiet : (kind : WordKind) (words : List (List ℕ)) (given : List Input) (calls : List (FileCall K)) → BeginsWords kind words given calls → Quiet calls
   begun_quiet kind words given calls begun =
       subst Quiet (sym begun.calls_are) (quiet_both begun.reads begun.more (words_quiet kind begun.first begun.before begun.reads begun.read) (word_begun_quiet kind begun.word begun.here begun.more begun.begun))
+
+  -- wherever the inputs come from
+  pub from_quiet : (from : InputsFrom) (given : List Input) (calls : List (FileCall K)) → ReadsFrom from given calls → Quiet calls
+  from_quiet (Words kind words) given calls read = words_quiet kind words given calls read
+  from_quiet (Texts task inputs) given calls (are, none) = subst Quiet (sym none) tt
+
+  pub from_begun_quiet : (from : InputsFrom) (given : List Input) (calls : List (FileCall K)) → BeginsFrom from given calls → Quiet calls
+  from_begun_quiet (Words kind words) given calls begun = begun_quiet kind words given calls begun
+  from_begun_quiet (Texts task inputs) given calls (are, none) = subst Quiet (sym none) tt
 
   -- ---- calls that open and close
 

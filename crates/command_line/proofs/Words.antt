@@ -4,10 +4,11 @@ use mathlib.Core.Bool.{false≢true, true≢false}
 use Rattle.std.specs.Prelude.{IsTrue, bytes_eq}
 use Rattle.std.specs.Option.{ok_or}
 use Rattle.std.specs.Result.{result_ok}
+use Rattle.std.proofs.lemmas.List.{length-map}
 use Rattle.std.proofs.lemmas.Option.{same_Some}
 use Rattle.std.proofs.lemmas.Slice.Eq.{bytes_eq-Decides}
 use Rattle.std.specs.declared.alloc.AllocError.{AllocError}
-use Rattle.clap.specs.Words.{IsAmong, Row, Text, first_of, is_simple, is_simple_and_free}
+use Rattle.clap.specs.Words.{IsAmong, Row, Text, all_of, first_of, is_simple, is_simple_and_free}
 use Rattle.clap.specs.declared.error.ErrorKind.{ErrorKind}
 use Rattle.clap.specs.declared.error.ErrorKind.TheVariants.{DisplayHelp, DisplayVersion, OutOfMemory}
 use Rattle.clap.proofs.OnLiterals.{clap_on_literals}
@@ -15,15 +16,20 @@ use Rattle.command_line.specs.declared.asked.Asked.{Asked}
 use Rattle.command_line.specs.declared.asked.Asked.TheVariants as asked
 use Rattle.command_line.specs.declared.asked.Batch.{Batch}
 use Rattle.command_line.specs.declared.asked.Terms.{Terms}
+use Rattle.item_spellings.specs.declared.spellings.Spelled.{Spelled}
 use Rattle.item_spellings.specs.declared.spellings.Spelling.{Spelling}
+use Rattle.item_spellings.specs.declared.spellings.Spelling.TheVariants as spellings
 use Rattle.folder_commands.specs.declared.words.WordKind.{WordKind}
 use Rattle.folder_commands.specs.declared.words.WordKind.TheVariants as kinds
 use Rattle.command_line.specs.declared.asked.FileCommand.{FileCommand}
 use Rattle.command_line.specs.declared.convert_commands.ConvertFiles.{ConvertFiles}
 use Rattle.command_line.specs.declared.lint_commands.LintFiles.{LintFiles}
 use Rattle.command_line.specs.declared.pack_commands.PackFiles.{PackFiles}
+use Rattle.command_line.specs.declared.plan_commands.Aim.{Aim}
+use Rattle.command_line.specs.declared.plan_commands.Aim.TheVariants.{Contents, Gaps as Misses, Packs as Packings}
+use Rattle.command_line.specs.declared.plan_commands.PlanCommand.{PlanCommand}
 use Rattle.command_line.specs.declared.asked.FileCommand.TheVariants.{Init, Copy, Capture, Start, Run, Report, Audit, Trace, Recalls, Recall, Items, Inside, Coverage, Gaps, Missed}
-use Rattle.command_line.specs.CommandLines.{recall, faults_of, named, AsksBatch, AsksDryBatch, AsksFiles, AsksHelp, AsksLinesAndEvents, AsksLint, AsksNamed, AsksOf, AsksPacks, AsksTwo, AsksTwoForms, Contradicts, GivesDocuments, GivesEpcs, GivesFiles, GivesSpelling, GivesWords, IsBad, IsBatch, IsCapture, IsCommand, IsContradiction, IsLintCommand, IsMistake, IsPacksCommand, IsSet, IsShown, IsStart, AsksFor, IsToldAs, IsUnset, epcs_kind, has_many, words_of, AsksConvert, IsConvertCommand}
+use Rattle.command_line.specs.CommandLines.{recall, faults_of, named, AsksBatch, AsksDryBatch, AsksFiles, AsksNoAim, AsksNoPlan, AsksPlan, AsksHelp, AsksLinesAndEvents, AsksLint, AsksNamed, AsksOf, AsksPacks, AsksTwo, AsksTwoForms, Contradicts, GivesDocuments, GivesEpcs, GivesFiles, GivesLone, GivesSpelling, GivesWords, IsBad, IsBatch, IsCapture, IsCommand, IsContradiction, IsLintCommand, IsMistake, IsAim, IsPacksCommand, IsPlain, IsPlan, IsSet, IsShown, IsStart, AsksFor, IsToldAs, IsUnset, epcs_kind, has_many, words_of, AsksConvert, IsConvertCommand}
 use mathlib.Core.Logic.{◌⊎◌}
 
 -- `clap`'s contract says which errors the command gives
@@ -83,7 +89,7 @@ nothing_twice (inr (inr untold)) = nothing_set (codes "events") untold.0
 no_contradiction : Contradicts (codes "sim") [] → ⊥
 no_contradiction (inl two) = nothing_twice two
 no_contradiction (inr (inl (is, both))) = nothing_set (codes "lines") both.0
-no_contradiction (inr (inr (inl (is, dry)))) = nothing_set (codes "dry-run") dry.dry
+no_contradiction (inr (inr (inl (is, other)))) = let bad = is in cc
 no_contradiction (inr (inr (inr idle))) = let bad = idle.0 in cc
 
 -- and no inputs
@@ -93,6 +99,12 @@ sim_has_no_words kinds.DocumentLines rows words is = let bad : ◌≡◌ {A = �
 sim_has_no_words kinds.DocumentEvents rows words is = let bad : ◌≡◌ {A = ℕ} 115 99 = ap (λ (text : List ℕ). get_or text 0 0) is.0 in absurd (omega arith)
 sim_has_no_words (kinds.Epc spelling) rows words is = let bad = is.0 in cc
 sim_has_no_words (kinds.EpcLines spelling) rows words is = let bad = is.0 in cc
+
+-- and no plan
+sim_has_no_aim : (aim : Aim) (rows : List Row) → IsAim aim (codes "sim") rows → ⊥
+sim_has_no_aim (Contents site item) rows is = let bad = is.0 in cc
+sim_has_no_aim (Misses site recall) rows is = let bad = is.0 in cc
+sim_has_no_aim (Packings site) rows is = let bad : ◌≡◌ {A = ℕ} 115 112 = ap (λ (text : List ℕ). get_or text 0 0) is.0 in absurd (omega arith)
 
 module _ (words : List (List ℕ)) (name : List ℕ) where
   pub sim_is_no_help : AsksHelp words → words ≡ name ∷ codes "sim" ∷ [] → ⊥
@@ -122,6 +134,11 @@ module _ (words : List (List ℕ)) (name : List ℕ) where
       let is : AsksNamed (Some (codes "sim", [])) (asked.Packs files) = subst (λ found. AsksNamed found (asked.Packs files)) (ap named e ∙ sim_named name) asks.1 in
       let bad : ◌≡◌ {A = ℕ} 115 112 = ap (λ (text : List ℕ). get_or text 0 0) is.0 in absurd (omega arith)
 
+  pub sim_is_no_plan : (command : PlanCommand) → AsksPlan words command → words ≡ name ∷ codes "sim" ∷ [] → ⊥
+  sim_is_no_plan command asks e =
+      let is : AsksNamed (Some (codes "sim", [])) (asked.Plan command) = subst (λ found. AsksNamed found (asked.Plan command)) (ap named e ∙ sim_named name) asks.1 in
+      sim_has_no_aim command.aim [] is.aim
+
   pub sim_is_no_convert : (files : ConvertFiles) → AsksConvert words files → words ≡ name ∷ codes "sim" ∷ [] → ⊥
   sim_is_no_convert files asks e =
       let is : AsksNamed (Some (codes "sim", [])) (asked.Convert files) = subst (λ found. AsksNamed found (asked.Convert files)) (ap named e ∙ sim_named name) asks.1 in
@@ -138,6 +155,7 @@ asks_told words kind (asked.Files command terms) has told = absurd told
 asks_told words kind (asked.Batch batch) has told = absurd told
 asks_told words kind (asked.Lint files) has told = absurd told
 asks_told words kind (asked.Packs files) has told = absurd told
+asks_told words kind (asked.Plan command) has told = absurd told
 asks_told words kind (asked.Convert files) has told = absurd told
 asks_told words kind (asked.Help text) has told =
     ⊎_elim (λ memory. absurd (memory_is_not_shown (subst IsShown memory told))) (λ among. (kind, told, among)) has
@@ -150,6 +168,7 @@ asks_named words (asked.Files command terms) none is = (none, is)
 asks_named words (asked.Batch batch) none is = (none, is)
 asks_named words (asked.Lint files) none is = (none, is)
 asks_named words (asked.Packs files) none is = (none, is)
+asks_named words (asked.Plan command) none is = (none, is)
 asks_named words (asked.Convert files) none is = (none, is)
 asks_named words (asked.Help text) none is = absurd (no_help (named words) is)
   where
@@ -168,6 +187,10 @@ pub asks_some : (words : List (List ℕ)) (found : Option Asked) (result : Resul
 asks_some words None result error e none is = subst (λ (r : Result Asked AllocError). IfOk r (AsksFor words)) (sym e) tt
 asks_some words (Some told_as) result error e none is = subst (λ (r : Result Asked AllocError). IfOk r (AsksFor words)) (sym e) (asks_named words told_as none is)
 
+-- a plan of one name is one of the same name
+plan_named : (command : PlanCommand) (name same : Text) (rows : List Row) → name ≡ same → IsPlan command same rows → IsPlan command name rows
+plan_named command name same rows e is = subst (λ (n : Text). IsPlan command n rows) (sym e) is
+
 -- what `capture` asks for is asked for by that name
 pub capture_named : (name : Text) (rows : List Row) (result : Option Asked) → name ≡ codes "capture" → IfSome result (IsCapture rows) → IfSome result (AsksOf name rows)
 capture_named name rows None e is = tt
@@ -176,6 +199,7 @@ capture_named name rows (Some (asked.Files command terms)) e is = (subst (λ (n 
 capture_named name rows (Some (asked.Batch batch)) e is = subst (λ (n : Text). IsBatch batch n rows) (sym e) is
 capture_named name rows (Some (asked.Lint files)) e is = absurd is
 capture_named name rows (Some (asked.Packs files)) e is = absurd is
+capture_named name rows (Some (asked.Plan command)) e is = absurd is
 capture_named name rows (Some (asked.Convert files)) e is = absurd is
 capture_named name rows (Some (asked.Help text)) e is = absurd is
 capture_named name rows (Some (asked.Mistake text)) e is = inr (inl (e, is))
@@ -188,6 +212,7 @@ start_named name rows (Some (asked.Files command terms)) e is = (subst (λ (n : 
 start_named name rows (Some (asked.Batch batch)) e is = subst (λ (n : Text). IsBatch batch n rows) (sym e) is
 start_named name rows (Some (asked.Lint files)) e is = absurd is
 start_named name rows (Some (asked.Packs files)) e is = absurd is
+start_named name rows (Some (asked.Plan command)) e is = plan_named command name (codes "start") rows e is
 start_named name rows (Some (asked.Convert files)) e is = absurd is
 start_named name rows (Some (asked.Help text)) e is = absurd is
 start_named name rows (Some (asked.Mistake text)) e is = inr (inr (inl (e, is)))
@@ -200,6 +225,7 @@ lint_named name rows (Some (asked.Files command terms)) e is = absurd is
 lint_named name rows (Some (asked.Batch batch)) e is = absurd is
 lint_named name rows (Some (asked.Lint files)) e is = (e, is)
 lint_named name rows (Some (asked.Packs files)) e is = absurd is
+lint_named name rows (Some (asked.Plan command)) e is = absurd is
 lint_named name rows (Some (asked.Convert files)) e is = absurd is
 lint_named name rows (Some (asked.Help text)) e is = absurd is
 lint_named name rows (Some (asked.Mistake text)) e is = absurd is
@@ -212,6 +238,7 @@ packs_named name rows (Some (asked.Files command terms)) e is = absurd is
 packs_named name rows (Some (asked.Batch batch)) e is = absurd is
 packs_named name rows (Some (asked.Lint files)) e is = absurd is
 packs_named name rows (Some (asked.Packs files)) e is = (e, is)
+packs_named name rows (Some (asked.Plan command)) e is = plan_named command name (codes "packs") rows e is
 packs_named name rows (Some (asked.Convert files)) e is = absurd is
 packs_named name rows (Some (asked.Help text)) e is = absurd is
 packs_named name rows (Some (asked.Mistake text)) e is = absurd is
@@ -224,6 +251,7 @@ convert_named name rows (Some (asked.Files command terms)) e is = absurd is
 convert_named name rows (Some (asked.Batch batch)) e is = absurd is
 convert_named name rows (Some (asked.Lint files)) e is = absurd is
 convert_named name rows (Some (asked.Packs files)) e is = absurd is
+convert_named name rows (Some (asked.Plan command)) e is = absurd is
 convert_named name rows (Some (asked.Convert files)) e is = (e, is)
 convert_named name rows (Some (asked.Help text)) e is = absurd is
 convert_named name rows (Some (asked.Mistake text)) e is = absurd is
@@ -246,6 +274,7 @@ mistake_named found (Some (asked.Files command terms)) two is = absurd is
 mistake_named found (Some (asked.Batch batch)) two is = absurd is
 mistake_named found (Some (asked.Lint files)) two is = absurd is
 mistake_named found (Some (asked.Packs files)) two is = absurd is
+mistake_named found (Some (asked.Plan command)) two is = absurd is
 mistake_named found (Some (asked.Convert files)) two is = absurd is
 mistake_named found (Some (asked.Help text)) two is = absurd is
 mistake_named None (Some (asked.Mistake text)) two is = two
@@ -308,10 +337,10 @@ gives_documents rows words kinds.DocumentEvents given = (refl, given)
 gives_documents rows words (kinds.Epc spelling) given = absurd given.1
 gives_documents rows words (kinds.EpcLines spelling) given = absurd given.1
 
-pub gives_epcs : (rows : List Row) (words : List Text) (by_lines : Bool) (spelling : Spelling) → GivesEpcs rows words by_lines → IsUnset rows (codes "dry-run") → GivesSpelling rows spelling
+pub gives_epcs : (rows : List Row) (words : List Text) (by_lines : Bool) (spelling : Spelling) → GivesEpcs rows words by_lines → IsUnset rows (codes "dry-run") → GivesSpelling rows spelling → IsPlain rows
     → GivesWords (codes "start") rows (epcs_kind by_lines spelling) words
-gives_epcs rows words false spelling given wet spells = (refl, given, wet, spells)
-gives_epcs rows words true spelling given wet spells = (refl, given, wet, spells)
+gives_epcs rows words false spelling given wet spells plain = (refl, given, wet, spells, plain)
+gives_epcs rows words true spelling given wet spells plain = (refl, given, wet, spells, plain)
 
 -- a list of one text
 pub one_text_alone : (texts : List (Bor Text)) (d : Bor Text) → length texts ≡ 1 → map (λ t. t.now) texts ≡ (get_or texts 0 d).now ∷ []
@@ -319,14 +348,15 @@ one_text_alone [] d one = absurd (omega (arith, one))
 one_text_alone (t ∷ []) d one = refl
 one_text_alone (t ∷ u ∷ texts) d one = absurd (omega (arith, one))
 
--- where a dry start of several recalls is asked for, that is what is wrong
-pub mistake_there : (rows : List Row) (result : Result Asked AllocError) (told : Option Asked) → told ≡ result_ok result → IfOk result IsMistake → AsksDryBatch rows → IfSome told (IsStart rows)
+-- where a dry start of several recalls is asked for, or a plan that there isn't, that is what is wrong
+pub mistake_there : (rows : List Row) (result : Result Asked AllocError) (told : Option Asked) → told ≡ result_ok result → IfOk result IsMistake → AsksDryBatch rows ⊎ AsksNoPlan rows → IfSome told (IsStart rows)
 mistake_there rows (Err e) told is mistakes dry = subst (λ o. IfSome o (IsStart rows)) (sym is) tt
 mistake_there rows (Ok asked.Sim) told is mistakes dry = absurd mistakes
 mistake_there rows (Ok (asked.Files command terms)) told is mistakes dry = absurd mistakes
 mistake_there rows (Ok (asked.Batch batch)) told is mistakes dry = absurd mistakes
 mistake_there rows (Ok (asked.Lint files)) told is mistakes dry = absurd mistakes
 mistake_there rows (Ok (asked.Packs files)) told is mistakes dry = absurd mistakes
+mistake_there rows (Ok (asked.Plan command)) told is mistakes dry = absurd mistakes
 mistake_there rows (Ok (asked.Convert files)) told is mistakes dry = absurd mistakes
 mistake_there rows (Ok (asked.Help text)) told is mistakes dry = absurd mistakes
 mistake_there rows (Ok (asked.Mistake text)) told is mistakes dry = subst (λ o. IfSome o (IsStart rows)) (sym is) dry
@@ -340,6 +370,7 @@ lines_and_events rows (Ok (asked.Files command terms)) told is mistakes both = a
 lines_and_events rows (Ok (asked.Batch batch)) told is mistakes both = absurd mistakes
 lines_and_events rows (Ok (asked.Lint files)) told is mistakes both = absurd mistakes
 lines_and_events rows (Ok (asked.Packs files)) told is mistakes both = absurd mistakes
+lines_and_events rows (Ok (asked.Plan command)) told is mistakes both = absurd mistakes
 lines_and_events rows (Ok (asked.Convert files)) told is mistakes both = absurd mistakes
 lines_and_events rows (Ok (asked.Help text)) told is mistakes both = absurd mistakes
 lines_and_events rows (Ok (asked.Mistake text)) told is mistakes both = subst (λ o. IfSome o (IsCapture rows)) (sym is) both
@@ -348,3 +379,34 @@ lines_and_events rows (Ok (asked.Mistake text)) told is mistakes both = subst (�
 pub ok_there : {V E : Type 0} (P : V → Type 0) (r : Result V E) (v : V) → Some v ≡ result_ok r → IfOk r P → P v
 ok_there P (Ok x) v is holds = subst P (sym (same_Some v x is)) holds
 ok_there {V} P (Err e) v is holds = let bad : ◌≡◌ {A = Option V} (Some v) None = is in cc
+
+-- ---- what is planned
+
+pub plain_start : (b : Bool) (rows : List Row) → IsTrue b ↔ (IsSet rows (codes "contents") ⊎ IsSet rows (codes "gaps")) → b ≡ false → IsPlain rows
+plain_start b rows is not = (λ set. false≢true (sym not ∙ is.1 (inl set)), λ set. false≢true (sym not ∙ is.1 (inr set)))
+
+module _ (rows : List Row) where
+  -- there is no such plan, where there is none of either kind
+  pub no_aim : ((site : Bor Text) (item : Spelled) → IsAim (Contents site item) (codes "start") rows → ⊥) → ((site recall : Bor Text) → IsAim (Misses site recall) (codes "start") rows → ⊥) → AsksNoAim rows
+  no_aim none other (Contents site item) is = none site item is
+  no_aim none other (Misses site recall) is = other site recall is
+  no_aim none other (Packings site) is = let bad : ◌≡◌ {A = ℕ} 115 112 = ap (λ (text : List ℕ). get_or text 0 0) is.0 in absurd (omega arith)
+
+  -- an item is spelled in one way
+  pub spelled_so : (spelling : Spelling) → GivesSpelling rows spelling → GivesSpelling rows spellings.Epc → spelling ≡ spellings.Epc
+  spelled_so spellings.Epc given epc = refl
+  spelled_so spellings.Key given epc = absurd (epc.0 given.0)
+  spelled_so spellings.Scan given epc = absurd (epc.1 given.1)
+
+  -- one word is given
+  pub lone_given : (words : List (Bor Text)) (d : Bor Text) → all_of (codes "epc") rows ≡ Some (map (λ w. w.now) words) → length words ≡ 1 → IsUnset rows (codes "from") → IsUnset rows (codes "dry-run") → GivesLone rows (get_or words 0 d).now
+  lone_given words d given one unset wet = ((given ∙ ap Some (one_text_alone words d one), (λ t. absurd (false≢true t), λ set. absurd (unset set))), wet)
+
+  pub one_given : (words : List (Bor Text)) (text : Text) → all_of (codes "epc") rows ≡ Some (map (λ w. w.now) words) → GivesLone rows text → length words ≡ 1
+  one_given words text given lone =
+      sym (length-map words (λ w. w.now)) ∙ ap length (same_Some (map (λ w. w.now) words) (text ∷ []) (sym given ∙ lone.0.0))
+
+-- what isn't so is answered by no
+pub is_unset : {P : Type 0} (b : Bool) → IsTrue b ↔ P → (P → ⊥) → b ≡ false
+is_unset false is none = refl
+is_unset true is none = absurd (none (is.0 refl))

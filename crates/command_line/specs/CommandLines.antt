@@ -26,6 +26,9 @@ use Rattle.command_line.specs.declared.asked.Terms.{Terms}
 use Rattle.command_line.specs.declared.convert_commands.ConvertFiles.{ConvertFiles}
 use Rattle.command_line.specs.declared.lint_commands.LintFiles.{LintFiles}
 use Rattle.command_line.specs.declared.pack_commands.PackFiles.{PackFiles}
+use Rattle.command_line.specs.declared.plan_commands.Aim.{Aim}
+use Rattle.command_line.specs.declared.plan_commands.Aim.TheVariants.{Contents, Gaps as Misses, Packs as Packings}
+use Rattle.command_line.specs.declared.plan_commands.PlanCommand.{PlanCommand}
 use Rattle.command_line.specs.declared.asked.FileCommand.TheVariants.{Init, Copy, Capture, Start, Run, Report, Audit, Trace, Recalls, Recall, Items, Inside, Coverage, Gaps, Missed}
 
 -- the words of a batch
@@ -114,7 +117,9 @@ abbrev pub start : App
 start =
     with_rule
     (with_spellings
-    (with_rule (with_rule (with_rule (with_rule (on_folder (codes "start")) (required (codes "site"))) epcs) (flag (codes "from"))) (flag (codes "dry-run"))))
+    (with_rule
+    (with_rule (with_rule (with_rule (with_rule (with_rule (on_folder (codes "start")) (required (codes "site"))) epcs) (flag (codes "from"))) (flag (codes "dry-run"))) (flag (codes "contents")))
+    (flag (codes "gaps"))))
     max_bytes
 
 -- `--turns n`: a number from 1 to 1,000,000, or 2,000 where it isn't there
@@ -178,7 +183,7 @@ capturing = record (new_rule (codes "site")) { long = Some (codes "site"); value
 
 -- of all sites, or of the one that is named
 abbrev pub packs : App
-packs = with_rule (on_folder (codes "packs")) capturing
+packs = with_rule (with_rule (on_folder (codes "packs")) capturing) (flag (codes "dry-run"))
 
 -- it needs no folder, but a list of sites
 abbrev pub lint : App
@@ -282,9 +287,9 @@ GivesSpelling rows spellings.Scan = IsUnset rows (codes "key") × IsSet rows (co
 abbrev pub AsksTwoSpellings : List Row → Type 0
 AsksTwoSpellings rows = IsSet rows (codes "key") × IsSet rows (codes "scan")
 
--- events are asked for in a form that tells none
+-- events are asked for in a picture, which tells none
 abbrev pub AsksUntoldEvents : List Row → Type 0
-AsksUntoldEvents rows = IsSet rows (codes "events") × (IsSet rows (codes "csv") ⊎ IsSet rows (codes "csv-guarded") ⊎ IsSet rows (codes "dot"))
+AsksUntoldEvents rows = IsSet rows (codes "events") × IsSet rows (codes "dot")
 
 -- it is said how an item is spelled, and none is given: of items without `--in`
 abbrev pub AsksIdleSpelling : Text → List Row → Type 0
@@ -317,6 +322,10 @@ GivesFiles rows paths kind = (all_of (codes "file") rows ≡ Some paths) × Give
 abbrev pub GivesEpcs : List Row → List Text → Bool → Type 0
 GivesEpcs rows epcs by_lines = (all_of (codes "epc") rows ≡ Some epcs) × (IsTrue by_lines ↔ IsSet rows (codes "from"))
 
+-- the start isn't planned by what other sites know
+abbrev pub IsPlain : List Row → Type 0
+IsPlain rows = IsUnset rows (codes "contents") × IsUnset rows (codes "gaps")
+
 -- the command has this name and these arguments
 abbrev pub IsCommand : FileCommand → Text → List Row → Type 0
 IsCommand (Init folder list) name rows = (name ≡ codes "init") × Gives rows (codes "dir") folder.now × Gives rows (codes "sites") list.now
@@ -327,6 +336,7 @@ IsCommand (Start folder site item dry) name rows =
     (name ≡ codes "start") × Gives rows (codes "dir") folder.now × Gives rows (codes "site") site.now × GivesEpcs rows (item.text.now ∷ []) false
     × GivesSpelling rows item.spelling
     × (IsTrue dry ↔ IsSet rows (codes "dry-run"))
+    × IsPlain rows
 IsCommand (Run folder terms) name rows =
     (name ≡ codes "run") × Gives rows (codes "dir") folder.now × GivesNumber rows (codes "turns") terms.turns × (1 ≤ terms.turns) × (terms.turns ≤ 1000000)
     × (IsTrue terms.until_ended ↔ IsSet rows (codes "until-ended")) × (IsTrue terms.unless_gaps ↔ IsSet rows (codes "unless-gaps")) × (IsTrue terms.coded ↔ IsSet rows (codes "exit-code"))
@@ -361,8 +371,8 @@ abbrev pub GivesWords : Text → List Row → WordKind → List Text → Type 0
 GivesWords name rows kinds.Document words = (name ≡ codes "capture") × GivesFiles rows words kinds.Document
 GivesWords name rows kinds.DocumentLines words = (name ≡ codes "capture") × GivesFiles rows words kinds.DocumentLines
 GivesWords name rows kinds.DocumentEvents words = (name ≡ codes "capture") × GivesFiles rows words kinds.DocumentEvents
-GivesWords name rows (kinds.Epc spelling) words = (name ≡ codes "start") × GivesEpcs rows words false × IsUnset rows (codes "dry-run") × GivesSpelling rows spelling
-GivesWords name rows (kinds.EpcLines spelling) words = (name ≡ codes "start") × GivesEpcs rows words true × IsUnset rows (codes "dry-run") × GivesSpelling rows spelling
+GivesWords name rows (kinds.Epc spelling) words = (name ≡ codes "start") × GivesEpcs rows words false × IsUnset rows (codes "dry-run") × GivesSpelling rows spelling × IsPlain rows
+GivesWords name rows (kinds.EpcLines spelling) words = (name ≡ codes "start") × GivesEpcs rows words true × IsUnset rows (codes "dry-run") × GivesSpelling rows spelling × IsPlain rows
 
 -- There are several inputs: those of several words, or of the lines or the events of files. One word that is one input is no batch.
 pub record IsBatch (batch : Batch) (name : Text) (rows : List Row) : Type 0 where
@@ -379,6 +389,35 @@ pub record AsksDryBatch (rows : List Row) : Type 0 where
   pub given : GivesEpcs rows epcs by_lines
   pub several : (by_lines ≡ true) ⊎ (length epcs ≢ 1)
   pub dry : IsSet rows (codes "dry-run")
+  pub plain : IsPlain rows
+
+-- ---- what is planned
+
+-- one word is given, and what it asks for isn't dry
+abbrev pub GivesLone : List Row → Text → Type 0
+GivesLone rows text = GivesEpcs rows (text ∷ []) false × IsUnset rows (codes "dry-run")
+
+-- what the plan is for
+abbrev pub IsAim : Aim → Text → List Row → Type 0
+IsAim (Contents site item) name rows =
+    (name ≡ codes "start") × Gives rows (codes "site") site.now × GivesLone rows item.text.now × GivesSpelling rows item.spelling
+    × IsSet rows (codes "contents") × IsUnset rows (codes "gaps")
+IsAim (Misses site recall) name rows =
+    (name ≡ codes "start") × Gives rows (codes "site") site.now × GivesLone rows recall.now × GivesSpelling rows spellings.Epc
+    × IsUnset rows (codes "contents") × IsSet rows (codes "gaps")
+IsAim (Packings site) name rows = (name ≡ codes "packs") × (option_map (λ t. t.now) site ≡ first_of (codes "site") rows) × IsUnset rows (codes "dry-run")
+
+pub record IsPlan (command : PlanCommand) (name : Text) (rows : List Row) : Type 0 where
+  pub folder : Gives rows (codes "dir") command.folder.now
+  pub aim : IsAim command.aim name rows
+  pub terms : GivesTerms rows command.terms
+
+-- a start is to be planned, and there is no such plan
+abbrev pub AsksNoAim : List Row → Type 0
+AsksNoAim rows = (aim : Aim) → IsAim aim (codes "start") rows → ⊥
+
+abbrev pub AsksNoPlan : List Row → Type 0
+AsksNoPlan rows = (IsSet rows (codes "contents") ⊎ IsSet rows (codes "gaps")) × AsksNoAim rows
 
 -- documents of files are looked through, by a list of sites
 pub record IsLint (asked : LintFiles) (rows : List Row) : Type 0 where
@@ -392,11 +431,13 @@ pub record IsLint (asked : LintFiles) (rows : List Row) : Type 0 where
 pub record IsPacks (asked : PackFiles) (rows : List Row) : Type 0 where
   pub folder : Gives rows (codes "dir") asked.folder.now
   pub site : option_map (λ t. t.now) asked.site ≡ first_of (codes "site") rows
+  pub dry : IsSet rows (codes "dry-run")
   pub terms : GivesTerms rows asked.terms
 
 -- what `packs` with these arguments asks for
 abbrev pub IsPacksCommand : List Row → Asked → Type 0
 IsPacksCommand rows (asked.Packs files) = IsPacks files rows
+IsPacksCommand rows (asked.Plan command) = IsPlan command (codes "packs") rows
 IsPacksCommand rows other = ⊥
 
 -- what `lint` with these arguments asks for
@@ -429,7 +470,8 @@ IsCapture rows other = ⊥
 abbrev pub IsStart : List Row → Asked → Type 0
 IsStart rows (asked.Files command terms) = IsCommand command (codes "start") rows × GivesTerms rows terms
 IsStart rows (asked.Batch batch) = IsBatch batch (codes "start") rows
-IsStart rows (asked.Mistake text) = AsksDryBatch rows
+IsStart rows (asked.Plan command) = IsPlan command (codes "start") rows
+IsStart rows (asked.Mistake text) = AsksDryBatch rows ⊎ AsksNoPlan rows
 IsStart rows other = ⊥
 
 -- no command is asked for, but something is wrong
@@ -442,10 +484,11 @@ abbrev pub HasTurns : FileCommand → Type 0
 HasTurns (Run dir terms) = terms.turns ≤ 1000000
 HasTurns command = ⊤
 
--- two options exclude each other, a dry start of several recalls is asked for, or an option is there without what it is of
+-- two options exclude each other, a dry start of several recalls is asked for or a plan that there isn't, or an option is there without what it is of
 abbrev pub Contradicts : Text → List Row → Type 0
 Contradicts name rows =
-    AsksTwo rows ⊎ (((name ≡ codes "capture") × AsksLinesAndEvents rows) ⊎ (((name ≡ codes "start") × AsksDryBatch rows) ⊎ AsksIdleSpelling name rows))
+    AsksTwo rows
+    ⊎ (((name ≡ codes "capture") × AsksLinesAndEvents rows) ⊎ (((name ≡ codes "start") × (AsksDryBatch rows ⊎ AsksNoPlan rows)) ⊎ AsksIdleSpelling name rows))
 
 -- the command of this name, with these arguments, is asked for
 abbrev pub AsksOf : Text → List Row → Asked → Type 0
@@ -454,6 +497,7 @@ AsksOf name rows (asked.Files command terms) = IsCommand command name rows × Gi
 AsksOf name rows (asked.Batch batch) = IsBatch batch name rows
 AsksOf name rows (asked.Lint files) = (name ≡ codes "lint") × IsLint files rows
 AsksOf name rows (asked.Packs files) = (name ≡ codes "packs") × IsPacks files rows
+AsksOf name rows (asked.Plan command) = IsPlan command name rows
 AsksOf name rows (asked.Convert files) = (name ≡ codes "convert") × IsConvert files rows
 AsksOf name rows (asked.Mistake text) = Contradicts name rows
 AsksOf name rows (asked.Help text) = ⊥
@@ -483,6 +527,10 @@ AsksLint words files = (faults_of words ≡ []) × AsksNamed (named words) (aske
 abbrev pub AsksPacks : List (List ℕ) → PackFiles → Type 0
 AsksPacks words files = (faults_of words ≡ []) × AsksNamed (named words) (asked.Packs files)
 
+-- or something that is planned
+abbrev pub AsksPlan : List (List ℕ) → PlanCommand → Type 0
+AsksPlan words command = (faults_of words ≡ []) × AsksNamed (named words) (asked.Plan command)
+
 -- or to be converted
 abbrev pub AsksConvert : List (List ℕ) → ConvertFiles → Type 0
 AsksConvert words files = (faults_of words ≡ []) × AsksNamed (named words) (asked.Convert files)
@@ -510,6 +558,7 @@ AsksFor words (asked.Files command terms) = AsksFiles words command terms
 AsksFor words (asked.Batch batch) = AsksBatch words batch
 AsksFor words (asked.Lint files) = AsksLint words files
 AsksFor words (asked.Packs files) = AsksPacks words files
+AsksFor words (asked.Plan command) = AsksPlan words command
 AsksFor words (asked.Convert files) = AsksConvert words files
 AsksFor words (asked.Help text) = AsksHelp words
 AsksFor words (asked.Mistake text) = IsBad words
@@ -521,6 +570,7 @@ IsToldAs kind (asked.Files command terms) = ⊥
 IsToldAs kind (asked.Batch batch) = ⊥
 IsToldAs kind (asked.Lint asked_for) = ⊥
 IsToldAs kind (asked.Packs asked_for) = ⊥
+IsToldAs kind (asked.Plan asked_for) = ⊥
 IsToldAs kind (asked.Convert asked_for) = ⊥
 IsToldAs kind (asked.Help text) = IsShown kind
 IsToldAs kind (asked.Mistake text) = (¬ IsShown kind) × (kind ≢ OutOfMemory)

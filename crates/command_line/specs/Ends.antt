@@ -1,6 +1,6 @@
 -- How a command line ends: with which status, and what it leaves on the standard output. What it leaves on the error stream, and how texts
 -- are worded, is for tests on the program.
-use Rattle.std.specs.Prelude.{◌≡◌, ◌⊎◌, ◌==◌, ℕ, List, [], ◌∷◌, Option, Result, Ok, Err, IfErr, IfOk, IfSome, codes, map, option_map, if◌then◌else◌}
+use Rattle.std.specs.Prelude.{◌≡◌, ◌≢◌, ◌⊎◌, ◌==◌, ℕ, List, [], ◌∷◌, ◌++◌, Option, Result, Ok, Err, IfErr, IfOk, IfSome, codes, map, option_map, if◌then◌else◌}
 use Rattle.std.specs.Global.{Global}
 use Rattle.std.specs.declared.string.String.{String}
 use Rattle.std.specs.Io.KnownBytes.{Appends, Keeps}
@@ -9,11 +9,16 @@ use Rattle.script_core.specs.Runs.{IsDone, Leaves}
 use Rattle.script_core.specs.declared.tallies.Tally.{Tally}
 use Rattle.recall_text.specs.declared.faults.ScriptFault.{ScriptFault}
 use Rattle.site_core.specs.Records.{Record}
+use Rattle.world_core.specs.KeptSteps.{StandsAfter}
 use Rattle.document_lint.specs.Lines.{json_line as lint_line, lint_json, totals_json as lint_totals, totals_status as lint_status}
 use Rattle.document_lint.specs.declared.findings.Lint.{Lint}
 use Rattle.event_json.specs.Sites.{Site}
 use Rattle.folder_questions.specs.declared.packs.PacksAnswer.{PacksAnswer}
 use Rattle.folder_questions.specs.declared.packs.PacksAnswer.TheVariants as packs
+use Rattle.folder_questions.specs.declared.plans.Planned.{Planned}
+use Rattle.folder_questions.specs.declared.plans.Planned.TheVariants as plans
+use Rattle.folder_questions.specs.declared.plans.PlannedBatch.{PlannedBatch}
+use Rattle.recall_text.specs.Words.{name_at}
 use Rattle.recall_outcomes.specs.Batches.{totals_status}
 use Rattle.recall_outcomes.specs.Statuses.{outcome_status}
 use Rattle.recall_outcomes.specs.declared.batches.InputOutcome.{InputOutcome}
@@ -24,7 +29,7 @@ use Rattle.recall_outcomes.specs.declared.outcomes.Output.{Output}
 use Rattle.site_folders.specs.FileCalls.{FileCall, Led}
 use Rattle.folder_commands.specs.Batches.{BatchFails, TakesAll}
 use Rattle.folder_commands.specs.Lints.{LintFails, Lints}
-use Rattle.folder_commands.specs.Words.{task_of}
+use Rattle.folder_commands.specs.Words.{Words, task_of}
 use Rattle.folder_commands.specs.declared.batches.BatchCame.{BatchCame}
 use Rattle.folder_commands.specs.declared.batches.BatchCame.TheVariants as batches
 use Rattle.folder_commands.specs.declared.batches.BatchOutput.{BatchOutput}
@@ -34,16 +39,18 @@ use Rattle.folder_commands.specs.declared.lints.LintOutput.{LintOutput}
 use Rattle.outcome_forms.specs.Json.{input_json, json_line, totals_json}
 use Rattle.outcome_forms.specs.Writing.{Writes, WritesLines}
 use Rattle.outcome_forms.specs.declared.forms.Form.{Form}
-use Rattle.command_line.specs.CommandLines.{AsksBatch, AsksFiles, AsksHelp, AsksLint, AsksPacks, AsksSim, IsBad, texts_of, words_of, AsksConvert}
+use Rattle.command_line.specs.CommandLines.{AsksBatch, AsksFiles, AsksHelp, AsksLint, AsksPacks, AsksPlan, AsksSim, IsBad, texts_of, words_of, AsksConvert}
 use Rattle.command_line.specs.Converting.{TellsConvert}
 use Rattle.command_line.specs.Leads.{FailsBy, LeadsTo}
 use Rattle.command_line.specs.declared.asked.Batch.{Batch}
 use Rattle.command_line.specs.declared.asked.FileCommand.{FileCommand}
 use Rattle.command_line.specs.declared.asked.Terms.{Terms}
 use Rattle.command_line.specs.Packs.{Finds, document_lines}
+use Rattle.command_line.specs.Plans.{FindsPlan, inputs_of}
 use Rattle.command_line.specs.declared.convert_commands.ConvertFiles.{ConvertFiles}
 use Rattle.command_line.specs.declared.lint_commands.LintFiles.{LintFiles}
 use Rattle.command_line.specs.declared.pack_commands.PackFiles.{PackFiles}
+use Rattle.command_line.specs.declared.plan_commands.PlanCommand.{PlanCommand}
 
 -- an input by what it still has, where it reports it, and an output
 pub record Streams (W : Type 0) : Type 0 where
@@ -114,6 +121,50 @@ abbrev pub PacksEnd : Form → List Site → PacksAnswer → Option (List ℕ) �
 PacksEnd form sites (packs.NoSite outcome) before after status = OutcomeEnds form sites outcome before after status
 PacksEnd form sites (packs.Found documents) before after status = (Appends before after (document_lines documents.items) × (status ≡ 0)) ⊎ (status ≡ 3)
 
+-- ---- a plan
+
+-- how far a plan was carried out: the files, the output, and the worst status so far
+pub record Progress (F W : Type 0) : Type 0 where
+  pub files : F
+  pub output : W
+  pub status : ℕ
+
+abbrev pub progress : {F W : Type 0} → F → W → ℕ → Progress F W
+progress files output status = record { files = files; output = output; status = status }
+
+module _ {F K W : Type 0} (does : F → FileCall K → F → Type 0) (shown : K → Option Record) (may : K → Record → Type 0) (stored : K → Type 0) (contents : W → Option (List ℕ)) (form : Form) (folder : List ℕ) (sites : List Site) where
+  -- what came of each input of a part was written as soon as it was kept, up to these lines; or a fault broke that off
+  abbrev pub TakesPart : PlannedBatch → F → F → W → W → Result BatchOutput Fault → Type 0
+  TakesPart part old new before lines (Ok output) =
+      Led does old new (TakesAll shown stored (InputLine contents form part.task) folder (name_at sites part.site) (inputs_of part) before lines output)
+  TakesPart part old new before lines (Err fault) =
+      Led does old new (BatchFails shown stored (InputLine contents form part.task) folder (name_at sites part.site) (inputs_of part) may before lines fault)
+
+  -- and then what they came to, or the fault was reported
+  pub record TellsPart (part : PlannedBatch) (old new : F) (before after : W) (status : ℕ) : Type 0 where
+    pub lines : W
+    pub came : Result BatchOutput Fault
+    pub taken : TakesPart part old new before lines came
+    pub ends : IfOk came (λ output. BatchEnds form output.sites output.came (contents lines) (contents after) status)
+    pub fails : IfErr came (λ fault. (after ≡ lines) × (status ≡ 3))
+
+  -- a part more, without a fault; where something of it was refused, that counts
+  abbrev pub TakesMore : Progress F W → PlannedBatch → Progress F W → Type 0
+  TakesMore old part new =
+      (status : ℕ) × TellsPart part old.files new.files old.output new.output status × (status ≢ 3) × (new.status ≡ (if status == 0 then old.status else status))
+
+  -- all parts, one after another; or those before one that a fault broke off
+  abbrev pub TakesPlan : List PlannedBatch → F → F → W → W → ℕ → Type 0
+  TakesPlan plan old new before after status =
+      StandsAfter TakesMore (progress old before 0) plan (progress new after status)
+      ⊎ ((done : List PlannedBatch) × (part : PlannedBatch) × (more : List PlannedBatch) × (plan ≡ done ++ part ∷ more)
+      × (mid : Progress F W) × StandsAfter TakesMore (progress old before 0) done mid × TellsPart part mid.files new mid.output after 3 × (status ≡ 3))
+
+  -- a plan was carried out, or its refusal was written
+  abbrev pub PlanEnds : Planned → F → F → W → W → ℕ → Type 0
+  PlanEnds (plans.Refused outcome) old new before after status = (new ≡ old) × OutcomeEnds form sites outcome (contents before) (contents after) status
+  PlanEnds (plans.Batches plan) old new before after status = TakesPlan plan.items old new before after status
+
 -- ---- without a call of the files
 
 module _ {F W : Type 0} (contents : W → Option (List ℕ)) (old new : F) (before after : Streams W) (status : ℕ) where
@@ -144,10 +195,10 @@ module _ {F K W : Type 0} (does : F → FileCall K → F → Type 0) (shown : K 
   abbrev pub TakesBatch : Batch → F → F → W → W → Result BatchOutput Fault → Type 0
   TakesBatch batch old new before lines (Ok output) =
       Led does old new
-      (TakesAll shown stored (InputLine contents batch.terms.form (task_of batch.kind)) batch.folder.now batch.site.now batch.kind (words_of batch) before lines output)
+      (TakesAll shown stored (InputLine contents batch.terms.form (task_of batch.kind)) batch.folder.now batch.site.now (Words batch.kind (words_of batch)) before lines output)
   TakesBatch batch old new before lines (Err fault) =
       Led does old new
-      (BatchFails shown stored (InputLine contents batch.terms.form (task_of batch.kind)) batch.folder.now batch.site.now batch.kind (words_of batch) may before lines fault)
+      (BatchFails shown stored (InputLine contents batch.terms.form (task_of batch.kind)) batch.folder.now batch.site.now (Words batch.kind (words_of batch)) may before lines fault)
 
 module _ {F K W : Type 0} (does : F → FileCall K → F → Type 0) (waits limits : F → ℕ → F → Type 0) (shown : K → Option Record) (may : K → Record → Type 0) (stored : K → Type 0) (contents : W → Option (List ℕ)) where
   -- and then what they came to, or the fault was reported
@@ -191,6 +242,17 @@ module _ {F K W : Type 0} (does : F → FileCall K → F → Type 0) (waits : F 
     pub ends : IfOk came (λ told. PacksEnd asked.terms.form told.0 told.1 (contents before) (contents after) status)
     pub fails : IfErr came (λ fault. (after ≡ before) × (status ≡ 3))
 
+module _ {F K W : Type 0} (does : F → FileCall K → F → Type 0) (waits : F → ℕ → F → Type 0) (shown : K → Option Record) (may : K → Record → Type 0) (stored : K → Type 0) (contents : W → Option (List ℕ)) where
+  -- the records were asked for a plan, which was carried out; or that failed, and the fault was reported
+  pub record TellsPlan (asked : PlanCommand) (old new : F) (before after : W) (status : ℕ) : Type 0 where
+    pub mid : F
+    pub waited : waits old asked.terms.wait mid
+    pub first : F
+    pub came : Result (List Site × Planned) Fault
+    pub found : FindsPlan does shown stored asked.folder.now asked.aim mid first came
+    pub ends : IfOk came (λ told. PlanEnds does shown may stored contents asked.terms.form asked.folder.now told.0 told.1 first new before after status)
+    pub fails : IfErr came (λ fault. (new ≡ first) × (after ≡ before) × (status ≡ 3))
+
 module _ {F K G W : Type 0} (does : F → FileCall K → F → Type 0) (waits limits : F → ℕ → F → Type 0) (knows : F → List ℕ → List ℕ → Type 0) (shown : K → Option Record) (failed : K → ℕ) (may : K → Record → Type 0) (reopens : K → Result K (Unopened K) → Type 0) (gives_up : G → ℕ → ℕ → Type 0) (stored : K → Type 0) (contents : W → Option (List ℕ)) where
   -- A command on files was asked for, and what it came to was written in the form that was asked for: an output, which is that of
   -- these calls of the files; or a fault, which is. Files that are in use were waited for as long as
@@ -223,6 +285,13 @@ module _ {F K G W : Type 0} (does : F → FileCall K → F → Type 0) (waits li
     pub unread : Keeps before.input after.input
     pub ends : TellsPacks does waits shown stored contents files old new before.output after.output status
 
+  -- something was asked for that is planned
+  pub record DoesPlan (words : List (List ℕ)) (old new : F) (before after : Streams W) (status : ℕ) : Type 0 where
+    pub command : PlanCommand
+    pub asked : AsksPlan words command
+    pub unread : Keeps before.input after.input
+    pub ends : TellsPlan does waits shown may stored contents command old new before.output after.output status
+
   -- documents were asked to be looked through
   pub record DoesLint (words : List (List ℕ)) (old new : F) (before after : Streams W) (status : ℕ) : Type 0 where
     pub files : LintFiles
@@ -244,6 +313,7 @@ module _ {F K G W : Type 0} (does : F → FileCall K → F → Type 0) (waits li
       ⊎ (DoesFiles (texts_of words) old new before after status
       ⊎ ((DoesBatch (texts_of words) old new before after status
       ⊎ (DoesLint (texts_of words) old new before after status
-      ⊎ (DoesPacks (texts_of words) old new before after status ⊎ DoesConvert (texts_of words) old new before after status)))
+      ⊎ (DoesPacks (texts_of words) old new before after status
+      ⊎ (DoesPlan (texts_of words) old new before after status ⊎ DoesConvert (texts_of words) old new before after status))))
       ⊎ (Helps contents old new before after status (texts_of words)
       ⊎ (IsMistaken contents old new before after status (texts_of words) ⊎ LacksMemory contents old new before after status))))

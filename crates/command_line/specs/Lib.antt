@@ -5,3 +5,4 @@ pub mod Leads
 pub mod UnknownItems
 pub mod Lives
 pub mod Packs
+pub mod Plans

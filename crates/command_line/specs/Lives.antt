@@ -58,9 +58,16 @@ module _ {K : Type 0} (shown : K → Option Record) (may : K → Record → Type
       (sites : List Site) (old new : List Standing) → length old ≡ length sites
       → FilesAreContinued sites old calls → FilesAreLeft old new calls → ActTogether old new
 
-  -- from old files on, once they were told how long to wait and how long a document may be, such calls led to new ones
-  abbrev pub LeadByActs : {F : Type 0} → (F → FileCall K → F → Type 0) → F → F → Type 0
-  LeadByActs {F} does old new = (mid : F) × Led does mid new AreActsOfSites
+  module _ {F : Type 0} (does : F → FileCall K → F → Type 0) where
+    -- such calls led from old files by these to new ones, in parts: a command that is planned asks the records first, and then one
+    -- site after another takes its part. Each part is as a command of its own.
+    abbrev pub LedInParts : List F → F → F → Type 0
+    LedInParts [] old new = Led does old new AreActsOfSites
+    LedInParts (mid ∷ between) old new = Led does old mid AreActsOfSites × LedInParts between mid new
+
+    -- and so from old files on, once they were told how long to wait and how long a document may be
+    abbrev pub LeadByActs : F → F → Type 0
+    LeadByActs old new = (first : F) × (between : List F) × LedInParts between first new
 
 -- ---- a command that was killed
 
@@ -101,7 +108,7 @@ WasKilled old new = (new ≡ old) ⊎ (((site : ℕ) × WasKilledAt site old new
 -- ---- the life of a folder
 
 module _ {K : Type 0} (shown : K → Option Record) (may : K → Record → Type 0) (sites : List Site) where
-  -- one command: it ended, and its calls are acts of the sites, as its contract says; or it was killed
+  -- one command, or one part of it: it ended, and its calls are acts of the sites, as its contract says; or it was killed
   abbrev pub WasGiven : List Standing → List Standing → Type 0
   WasGiven old new =
       ((calls : List (FileCall K)) × AreActsOfSites shown may calls × FilesAreContinued shown may sites old calls × FilesAreLeft shown may old new calls)

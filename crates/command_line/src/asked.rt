@@ -3,6 +3,7 @@
 use crate::convert_commands::ConvertFiles;
 use crate::lint_commands::LintFiles;
 use crate::pack_commands::PackFiles;
+use crate::plan_commands::PlanCommand;
 use folder_commands::{RunTerms, WordKind};
 use item_spellings::Spelled;
 use outcome_forms::Form;
@@ -21,6 +22,8 @@ pub(crate) enum Asked<'a> {
     Lint(LintFiles<'a>),
     /// It is asked for the events by which sites close their packed gaps.
     Packs(PackFiles<'a>),
+    /// Something is planned by the records of all sites, and then done.
+    Plan(PlanCommand<'a>),
     /// Documents of files are converted into such as are captured.
     Convert(ConvertFiles<'a>),
     /// Help, or the version, which is an answer.

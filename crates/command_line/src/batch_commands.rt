@@ -10,7 +10,7 @@ use crate::limits::LimitsDocuments;
 use crate::sinks::InputLines;
 use folder_commands::{BatchCame, BatchOutput, take_inputs, task_of};
 use keeper_core::SiteKeeper;
-use outcome_forms::{InputSentences, write_noted, write_sentences, write_totals};
+use outcome_forms::{Form, InputSentences, write_noted, write_sentences, write_totals};
 use recall_outcomes::{Fault, Notes, Output};
 use site_folders::Files;
 use std::alloc::Global;
@@ -35,7 +35,7 @@ pub(crate) fn take_batch<K: SiteKeeper, F: Files<K> + LimitsDocuments, W: Write,
     let taken = take_all(alloc, files, batch, &sentences, output);
     write_sentences(alloc, batch.terms.form, &sentences.into_inner(), errors);
     match taken {
-        Ok(told) => tell_batch(alloc, files, batch, told, output, errors),
+        Ok(told) => tell_batch(alloc, batch.terms.form, true, files, told, output, errors),
         Err(cause) => fault(alloc, batch.terms.form, files, cause, errors),
     }
 }
@@ -72,19 +72,20 @@ fn take_all<K: SiteKeeper, F: Files<K>, W: Write>(
     )
 }
 
-/// Prints what the inputs came to.
-fn tell_batch<K: SiteKeeper, F: Files<K>, W: Write, E: Write>(
+/// Prints what the inputs came to; and beside it what isn't traced, and how many items lie in the recalled ones, where
+/// that is to be told.
+pub(crate) fn tell_batch<K: SiteKeeper, F: Files<K>, W: Write, E: Write>(
     alloc: Global,
+    form: Form,
+    tells_inside: bool,
     files: &F,
-    batch: &Batch<'_>,
     told: BatchOutput,
     output: &mut W,
     errors: &mut E,
 ) -> u8
-    ensures { BatchEnds batch.now.terms.form told.sites told.came (W.contents output.old)
-        (W.contents output.new) result }
+    ensures { BatchEnds form told.sites told.came (W.contents output.old) (W.contents output.new)
+        result }
 {
-    let form = batch.terms.form;
     let BatchOutput { sites, came } = told;
     match came {
         BatchCame::NoSite(outcome) => {
@@ -97,7 +98,8 @@ fn tell_batch<K: SiteKeeper, F: Files<K>, W: Write, E: Write>(
         }
         BatchCame::Taken { totals, noted } => match write_totals(alloc, form, totals, output) {
             Ok(()) => {
-                write_noted(alloc, form, &noted.untraced, noted.inside, errors);
+                let inside = if tells_inside { noted.inside } else { 0 };
+                write_noted(alloc, form, &noted.untraced, inside, errors);
                 totals.status()
             }
             Err(cause) => fault(alloc, form, files, cause, errors),

@@ -1,6 +1,6 @@
 //! What the words of a command line ask for.
 
-ghost use Rattle.std.specs.Prelude.{◌≡◌, ◌↔◌, false, None, IfNone, IfOk, IfSome, IsTrue, length};
+ghost use Rattle.std.specs.Prelude.{◌≡◌, ◌↔◌, ◌⊎◌, codes, false, None, IfNone, IfOk, IfSome, IsTrue, length};
 ghost use Rattle.clap.specs.Words.{first_of, found_of, kind_of, rows_of, subcommand_rows_of};
 ghost use Rattle.command_line.specs.CommandLines.{texts_of, AsksFor, AsksIdleSpelling, AsksLinesAndEvents, AsksNamed, AsksOf, AsksTwoForms, AsksTwoSpellings, AsksUntoldEvents, Gives, GivesDocuments, GivesForm, GivesMost, GivesNumber, GivesSpelling, GivesTerms, IsCapture, IsMistake, IsSet, IsStart, IsToldAs, epcs_kind, has_many};
 
@@ -11,6 +11,7 @@ use crate::grammar::recall;
 use crate::helps;
 use crate::lint_commands::lint_command;
 use crate::pack_commands::packs_command;
+use crate::plan_commands::plan_start;
 use clap::error::ErrorKind;
 use clap::{ArgMatches, Error};
 use folder_commands::WordKind;
@@ -84,7 +85,7 @@ fn on_folder<'a>(
 
 /// What is reported where options contradict one another. `clap` would refuse them, but then its contract tells no
 /// argument.
-fn mistake<'a>(alloc: Global, what: &str) -> Result<Asked<'a>, AllocError>
+pub(crate) fn mistake<'a>(alloc: Global, what: &str) -> Result<Asked<'a>, AllocError>
     ensures { IfOk result IsMistake }
 {
     let text = String::from_str(alloc, what)?;
@@ -117,11 +118,14 @@ fn capture_command<'a>(alloc: Global, given: &ArgMatches<'a>, terms: Terms) -> O
     }))
 }
 
-/// The command to start a recall of an item, or a batch.
+/// The command to start a recall of an item, or a batch; or what is planned first.
 fn start_command<'a>(alloc: Global, given: &ArgMatches<'a>, terms: Terms) -> Option<Asked<'a>>
     requires { GivesTerms (rows_of (found_of given.now)) terms }
     ensures { IfSome result (IsStart (rows_of (found_of given.now))) }
 {
+    if asks_plan(given) {
+        return plan_start(alloc, given, terms);
+    }
     let folder = argument(given, "dir")?;
     let site = argument(given, "site")?;
     let epcs = given.get_strs("epc")?;
@@ -151,6 +155,14 @@ fn start_command<'a>(alloc: Global, given: &ArgMatches<'a>, terms: Terms) -> Opt
         kind,
         terms,
     }))
+}
+
+/// Whether a start is to be planned by what other sites know.
+fn asks_plan(given: &ArgMatches<'_>) -> bool
+    ensures { IsTrue result ↔ (IsSet (rows_of (found_of given.now)) (codes "contents")
+        ⊎ IsSet (rows_of (found_of given.now)) (codes "gaps")) }
+{
+    is_set(given, "contents") || is_set(given, "gaps")
 }
 
 /// What words are that are files of documents. None where both the lines and the events of a file are to be taken on
@@ -240,12 +252,11 @@ fn form_of(given: &ArgMatches<'_>) -> Option<Form>
     }
 }
 
-/// Whether events are asked for in a form that tells none.
+/// Whether events are asked for in a picture, which tells none.
 fn asks_untold_events(given: &ArgMatches<'_>) -> bool
     ensures { IsTrue result ↔ AsksUntoldEvents (rows_of (found_of given.now)) }
 {
-    is_set(given, "events")
-        && (is_set(given, "csv") || is_set(given, "csv-guarded") || is_set(given, "dot"))
+    is_set(given, "events") && is_set(given, "dot")
 }
 
 /// Whether it is said how an item is spelled where no item is given: at `items` without `--in`.

@@ -11,6 +11,7 @@ use crate::folder_tasks::do_command;
 use crate::limits::LimitsDocuments;
 use crate::lint_commands::lint_files;
 use crate::pack_commands::pack_files;
+use crate::plan_commands::do_plan;
 use crate::sinks::print;
 use crate::{command_lines, statuses};
 use keeper_core::SiteKeeper;
@@ -74,6 +75,11 @@ pub fn run_command<
     // The packings that close gaps are those of the folder's records, as documents: a line of each was written, with 0,
     // or writing failed, with 3; or the site isn't listed, which is refused.
     //
+    // What is planned is what the records of all sites say; or it is refused. Each site took its part as `take_texts`
+    // says, one after another, with a line for what came of each input, written once it is kept, and totals; up to a
+    // fault, with 3, or with 1 exactly where something was refused.
+    // Not covered: the names under which the lines tell of inputs.
+    //
     // In a conversion each file was read, one after another, and the lines of its documents were written, in order, and
     // nothing else, with 0, or 1 exactly where something in a file is no document. Or a fault ended it, with 3: the
     // files before one were converted, and that one can't be read, memory ran out at it, or its lines can't be written.
@@ -89,8 +95,8 @@ pub fn run_command<
     ensures sim { SimRuns W.contents files.old files.new
         (streams I.remaining input.old output.old) (streams I.remaining input.new output.new)
         result words.now }
-    // Whatever a command comes to, its calls of the files are acts of single sites, by frames that these gave each
-    // other, wherever the files go on.
+    // Whatever a command comes to, its calls of the files, or each part of what is planned, are acts of single sites, by
+    // frames that these gave each other, wherever the files go on.
     ensures acts { LeadByActs K.shown K.may F.does files.old files.new }
 {
     answer(rt, alloc, keys, files, gate, words, input, output, errors)
@@ -132,6 +138,7 @@ fn answer<
         Ok(Asked::Batch(batch)) => take_batch(alloc, files, &batch, output, errors),
         Ok(Asked::Lint(asked)) => lint_files(alloc, files, &asked, output, errors),
         Ok(Asked::Packs(asked)) => pack_files(alloc, files, &asked, output, errors),
+        Ok(Asked::Plan(asked)) => do_plan(alloc, files, &asked, output, errors),
         Ok(Asked::Convert(asked)) => convert_files(alloc, files, &asked, output, errors),
         Ok(Asked::Help(text)) => help(text.as_str(), output, errors),
         Ok(Asked::Mistake(text)) => {

@@ -108,6 +108,16 @@ fn start<'a>(alloc: Global) -> Result<Command<'a>, AllocError>
             "dry-run",
             "Tell what the start would do, and do nothing",
         ))?
+        .arg(flag(
+            alloc,
+            "contents",
+            "Start a recall of each item that lies in it, too",
+        ))?
+        .arg(flag(
+            alloc,
+            "gaps",
+            "Close the site's gaps, and recall there what the recall misses that is given as <epc>",
+        ))?
         .arg(key(alloc))?
         .arg(scan(alloc))?
         .arg(max_bytes(alloc))
@@ -202,10 +212,13 @@ fn gaps<'a>(alloc: Global) -> Result<Command<'a>, AllocError>
 fn packs<'a>(alloc: Global) -> Result<Command<'a>, AllocError>
     ensures { IfOk result (λ command. app_of command ≡ packs) }
 {
-    on_folder(alloc, "packs", helps::PACKS_ABOUT, helps::PACKS_EXAMPLE)?.arg(of_site(
-        alloc,
-        "The site; all of them where it is left out",
-    ))
+    on_folder(alloc, "packs", helps::PACKS_ABOUT, helps::PACKS_EXAMPLE)?
+        .arg(of_site(alloc, "The site; all of them where it is left out"))?
+        .arg(flag(
+            alloc,
+            "dry-run",
+            "Print the packings as documents, and capture nothing",
+        ))
 }
 
 fn coverage<'a>(alloc: Global) -> Result<Command<'a>, AllocError>

@@ -16,9 +16,9 @@ error: only one of '--json', '--csv', '--csv-guarded' and '--dot' can be given
 For more information, try '--help'.
 ";
 
-/// What is wrong where events are asked for in a form that tells none.
+/// What is wrong where events are asked for in a picture, which tells none.
 pub(crate) const UNTOLD_EVENTS: &str = "\
-error: '--events' is for text and '--json', and not for '--csv', '--csv-guarded' or '--dot'
+error: '--events' is for text, '--json', '--csv' and '--csv-guarded', and not for '--dot'
 
 For more information, try '--help'.
 ";
@@ -40,6 +40,14 @@ For more information, try '--help'.
 /// What is wrong where a start of several recalls is to be dry.
 pub(crate) const ONE_DRY_START: &str = "\
 error: '--dry-run' takes one EPC, and no '--from'
+
+For more information, try '--help'.
+";
+
+/// What is wrong where a start that is planned is asked for with something else.
+pub(crate) const NO_PLAN: &str = "\
+error: '--contents' takes one EPC and '--gaps' one recall, each without the other and without '--from' and '--dry-run', and
+'--gaps' without '--key' and '--scan'
 
 For more information, try '--help'.
 ";
@@ -159,6 +167,10 @@ An item that is refused doesn't stop the others. A last line has the totals.
 With `--key` the item is given as this program prints it, with `--scan` as a scanner gives it: a list of GS1
 element strings with a GTIN (01) and a serial number (21) or a lot (10), or an SSCC (00), in brackets or not.
 
+With `--contents` each item that lies in the given one has a recall, too, by the packings of all sites. With
+`--gaps` a recall is given: the site captures the packings that close its gaps, as `recall packs` does, and
+starts a recall of each item there that the given recall misses and that no recall holds.
+
 Examples:
   recall start chain dairy urn:epc:id:sgtin:0614141.112345.400 --dry-run
   recall start chain dairy urn:epc:id:sgtin:0614141.112345.400
@@ -199,14 +211,15 @@ step alone, in its own line. With `--events` stand behind each step the events t
 and behind each shipment that left the first event that shows it, `shipped in <item>` where it left in that.
 
 With `--csv` each quarantined item and each shipment that left is a row of a table for a spreadsheet, with
-the step before it; with `--csv-guarded` a cell that a spreadsheet might take for a formula has an apostrophe
-before it. With `--dot` the spread is a picture for Graphviz. A refusal is printed as text.
+the step before it, and with `--events` the first event of that; with `--csv-guarded` a cell that a spreadsheet
+might take for a formula has an apostrophe before it. With `--dot` the spread is a picture for Graphviz. A
+refusal is printed as text.
 
 Examples:
   recall report chain dairy#1
   recall report chain dairy#1 --brief
   recall report chain dairy#1 --events
-  recall report chain dairy#1 --csv > recall.csv
+  recall report chain dairy#1 --csv --events > recall.csv
   recall report chain dairy#1 --dot | dot -Tsvg > recall.svg
 
 Status: 0 done, 1 refused (UnknownRecall: the site began none of this number), 3 a fault.";
@@ -238,8 +251,9 @@ that come from nowhere among the traced sites. With `--brief` each has one step,
 recalled, and no file is changed.
 
 With `--csv` it is a table for a spreadsheet, with a row for each item at a site and one for each shipment
-that left or each origin, and with `--csv-guarded` the same with an apostrophe before what a spreadsheet might
-take for a formula; with `--dot` a picture for Graphviz. A refusal is printed as text.
+that left or each origin, with `--events` their first events, too, and with `--csv-guarded` the same with an
+apostrophe before what a spreadsheet might take for a formula; with `--dot` a picture for Graphviz. A refusal
+is printed as text.
 
 With `--key` the item is given as this program prints it, with `--scan` as a scanner gives it.
 
@@ -316,18 +330,19 @@ Example:
 
 Status: 0 done, 1 refused, 3 a fault.";
 
-pub(crate) const PACKS_ABOUT: &str =
-    "Prints the packings by which sites close their packed gaps, as documents to capture";
+pub(crate) const PACKS_ABOUT: &str = "Captures the packings by which sites close their packed gaps";
 
 pub(crate) const PACKS_EXAMPLE: &str = "\
 A packed gap is closed where the site that shipped the container on captures what another one packed into it.
-Prints each such event as an EPCIS document in a line of its own, under its own `eventID`, by site, then by who
-packed, then in the order in which it was captured there. Nothing is captured: `recall capture --lines` at the
-site does that. An event that it refuses stays a gap, and hinders no other.
+Each site captures each such event under its own `eventID`, site by site, in the order in which who packed
+captured them; a line tells what came of each, and behind those of a site stand its totals. An event that is
+refused stays a gap, and hinders no other: where a recall has come by, it is `Blocked`, and `recall start
+--gaps` goes on. With `--dry-run` nothing is captured: each event is printed as an EPCIS document in a line of
+its own, as `recall capture --lines` takes it.
 
 Examples:
-  recall packs chain --site dairy >packings.ndjson
-  recall capture chain dairy --lines packings.ndjson
+  recall packs chain
+  recall packs chain --site dairy --dry-run >packings.ndjson
   recall gaps chain
 
 Status: 0 done, 1 refused, 3 a fault.";
@@ -362,14 +377,14 @@ pub(crate) const LINT_ABOUT: &str =
     "Tells all that is wrong or strange in documents, before they are captured";
 
 pub(crate) const LINT_EXAMPLE: &str = "\
-Needs the list of sites alone, and writes nothing. `fault <kind> event <number> field <field> <file>` for the
-first fault of each event, in the words of a refused capture; a document without a fault is one that is read.
-`warn` for what is read and probably not meant: ShipsNowhere (shipping, departing or consigning without a
-destination), Outside (a destination that is no traced site), OtherSpelling (one with the GLN of this site),
-NotShipped (a destination of an event that isn't an ObjectEvent), NothingPacked (ADD without children), Skipped
-(an event of a type that isn't traced), NoEventID (captured again it counts again), NearMiss (begins as an SGTIN
-or an SSCC and breaks its rules); and with `--site <name>` OtherPlace (its readPoint or bizLocation is an address
-of another site than the one that is to capture it). Then a total.
+Needs the list of sites alone, and writes nothing. `fault <kind> event <number> field <field> <file>` for each
+faulty member of an event, of which the first is what a capture is refused for; a document without a fault is
+one that is read. `warn` for what is read and probably not meant: ShipsNowhere (shipping, departing or
+consigning without a destination), Outside (a destination that is no traced site), OtherSpelling (one with the
+GLN of this site), NotShipped (a destination of an event that isn't an ObjectEvent), NothingPacked (ADD without
+children), Skipped (an event of a type that isn't traced), NoEventID (captured again it counts again), NearMiss
+(begins as an SGTIN or an SSCC and breaks its rules); and with `--site <name>` OtherPlace (its readPoint or
+bizLocation is an address of another site than the one that is to capture it). Then a total.
 
 Examples:
   recall lint examples/dairy/sites examples/dairy/dairy.json

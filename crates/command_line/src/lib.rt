@@ -15,6 +15,7 @@ pub mod laws;
 mod limits;
 mod lint_commands;
 mod pack_commands;
+mod plan_commands;
 mod sinks;
 mod statuses;
 

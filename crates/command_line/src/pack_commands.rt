@@ -8,8 +8,9 @@ ghost use Rattle.command_line.specs.Ends.{PacksEnd, TellsPacks};
 ghost use Rattle.command_line.specs.Packs.{Finds, document_line, document_lines};
 
 use crate::asked::{Asked, Terms};
-use crate::command_lines::argument;
+use crate::command_lines::{argument, is_set};
 use crate::commands::{fault, tell_output};
+use crate::plan_commands::{Aim, PlanCommand};
 use crate::sinks::print;
 use crate::statuses;
 use clap::ArgMatches;
@@ -31,18 +32,23 @@ pub(crate) struct PackFiles<'a> {
     pub(crate) terms: Terms,
 }
 
-/// The command for the events by which sites close their packed gaps.
+/// The command for the events by which sites close their packed gaps: they are captured, or their documents printed.
 pub(crate) fn packs_command<'a>(given: &ArgMatches<'a>, terms: Terms) -> Option<Asked<'a>>
     requires { GivesTerms (rows_of (found_of given.now)) terms }
     ensures { IfSome result (IsPacksCommand (rows_of (found_of given.now))) }
 {
     let folder = argument(given, "dir")?;
     let site = given.get_str("site");
-    Some(Asked::Packs(PackFiles {
-        folder,
-        site,
-        terms,
-    }))
+    if is_set(given, "dry-run") {
+        Some(Asked::Packs(PackFiles {
+            folder,
+            site,
+            terms,
+        }))
+    } else {
+        let aim = Aim::Packs { site };
+        Some(Asked::Plan(PlanCommand { folder, aim, terms }))
+    }
 }
 
 /// Writes the documents of the events that are asked for, and returns the status to end with.

@@ -4,6 +4,7 @@ use Rattle.std.specs.Prelude.{MatchResult, Result}
 use Rattle.std.proofs.lemmas.List.Elements.{Contains-append_right}
 use Rattle.event_json.specs.Sites.{Site, named}
 use Rattle.recall_outcomes.specs.declared.batches.InputOutcome.{InputOutcome}
+use Rattle.recall_outcomes.specs.declared.batches.Task.{Task}
 use Rattle.recall_outcomes.specs.declared.faults.Fault.{Fault}
 use Rattle.recall_outcomes.specs.declared.faults.Fault.TheVariants.{NoMemory}
 use Rattle.site_core.specs.Records.{Record}
@@ -18,7 +19,7 @@ use Rattle.folder_commands.specs.declared.batches.BatchOutput.{BatchOutput}
 use Rattle.folder_commands.specs.declared.batches.BatchRun.{BatchRun}
 use Rattle.folder_commands.specs.declared.batches.Counts.{Counts}
 use Rattle.folder_commands.specs.Inputs.{Input}
-use Rattle.folder_commands.specs.Words.{BeginsWord, BeginsWords, FailsToRead, ReadsNone, ReadsWord, ReadsWords, task_of}
+use Rattle.folder_commands.specs.Words.{BeginsFrom, BeginsWord, BeginsWords, FailsToRead, InputsFrom, ReadsFrom, ReadsNone, ReadsWord, ReadsWords, Texts, task_from}
 use Rattle.folder_commands.specs.declared.words.WordKind.{WordKind}
 use Rattle.folder_commands.proofs.StepLemmas.{match_so}
 use Rattle.folder_commands.proofs.WordLemmas.{reads_word}
@@ -181,10 +182,20 @@ module _ {S K : Type 0} (shown : K → Option Record) (may : K → Record → Ty
       (λ ss. MatchResult result (λ u. (end : Standing S) × Stands shown ss run hears end × Led does old new (TakesThose takes ss Reads mid end)) (λ fault. Led does old new (BreaksOff takes ss shown may Begins mid run.keeper hears fault)))
       at.lists (did.came mid (record { shows = at.shows; hears = at.hears; counts = at.counts; lists = refl }))
 
+-- ---- inputs that are given
+
+module _ {S K : Type 0} (shown : K → Option Record) (may : K → Record → Type 0) (takes : S → List Site → List ℕ → InputOutcome → S → Type 0) (sites : List Site) {F : Type 0} (does : F → FileCall K → F → Type 0) (task : Task) (inputs : List Input) (files : F) (start : Standing S) where
+  pub texts_taken : (end : Standing S) → Takes takes sites start inputs end → Led does files files (TakesThose takes sites (ReadsFrom (Texts task inputs)) start end)
+  texts_taken end taken = record { calls = []; are = record { inputs = inputs; read = (refl, refl); taken = taken }; led = refl }
+
+  pub texts_broke : (kept : K) (sink : S) (fault : Fault) → BreaksEach takes sites shown may inputs start kept sink fault
+      → Led does files files (BreaksOff takes sites shown may (BeginsFrom (Texts task inputs)) start kept sink fault)
+  texts_broke kept sink fault broke = record { calls = []; are = off_of_each takes sites shown may (BeginsFrom (Texts task inputs)) start start [] inputs kept sink fault [] (refl, refl) refl broke; led = refl }
+
 -- ---- the whole
 
-module _ {S K F : Type 0} (shown : K → Option Record) (may : K → Record → Type 0) (stored : K → Type 0) (takes : S → List Site → List ℕ → InputOutcome → S → Type 0) (does : F → FileCall K → F → Type 0) (folder name : List ℕ) (kind : WordKind)
-    (words : List (List ℕ)) (old first opened_files mid new : F) (sites : List Site) (site : ℕ) (keeper : K) (r : Record) (listed : Led does old first (ListsSites folder sites)) (known : named sites name ≡ Some site)
+module _ {S K F : Type 0} (shown : K → Option Record) (may : K → Record → Type 0) (stored : K → Type 0) (takes : S → List Site → List ℕ → InputOutcome → S → Type 0) (does : F → FileCall K → F → Type 0) (folder name : List ℕ) (from : InputsFrom)
+    (old first opened_files mid new : F) (sites : List Site) (site : ℕ) (keeper : K) (r : Record) (listed : Led does old first (ListsSites folder sites)) (known : named sites name ≡ Some site)
     (keeps : KeepsSite shown stored sites site keeper r) (opens : does first (opens_site folder sites site keeper) opened_files) (run : BatchRun K) (heard hears : S) (lasts : stored run.keeper) (closes : does mid (ClosedSite run.keeper) new) where
   abbrev calls_of : List (FileCall K) → List (FileCall K)
   calls_of reads = opens_site folder sites site keeper ∷ reads ++ ClosedSite run.keeper ∷ []
@@ -192,11 +203,11 @@ module _ {S K F : Type 0} (shown : K → Option Record) (may : K → Record → 
   led_of : (reads : List (FileCall K)) → Calls does opened_files reads mid → Calls does first (calls_of reads) new
   led_of reads read = (opened_files, opens, calls_then does opened_files mid new reads (ClosedSite run.keeper ∷ []) read (new, closes, refl))
 
-  pub batch_broke : (fault : Fault) → Led does opened_files mid (BreaksOff takes sites shown may (BeginsWords kind words) (standing r heard (no_counts (task_of kind))) run.keeper hears fault)
-      → Led does old new (BatchFails shown stored takes folder name kind words may heard hears fault)
+  pub batch_broke : (fault : Fault) → Led does opened_files mid (BreaksOff takes sites shown may (BeginsFrom from) (standing r heard (no_counts (task_from from))) run.keeper hears fault)
+      → Led does old new (BatchFails shown stored takes folder name from may heard hears fault)
   batch_broke fault broke =
       led_so does old new (λ calls is. inr is)
-      (behind_list does folder (BreaksBatch shown stored takes folder name kind words may heard hears fault) old first new sites listed
+      (behind_list does folder (BreaksBatch shown stored takes folder name from may heard hears fault) old first new sites listed
       (record {
         calls = calls_of broke.calls;
         are = record {
@@ -215,14 +226,14 @@ module _ {S K F : Type 0} (shown : K → Option Record) (may : K → Record → 
       }))
 
   pub batch_taken : (output : BatchOutput) (end : Standing S) → output.sites ≡ sites → output.came ≡ batches.Taken run.counts.totals run.counts.noted → Stands shown sites run hears end
-      → Led does opened_files mid (TakesThose takes sites (ReadsWords kind words) (standing r heard (no_counts (task_of kind))) end) → Led does old new (TakesAll shown stored takes folder name kind words heard hears output)
+      → Led does opened_files mid (TakesThose takes sites (ReadsFrom from) (standing r heard (no_counts (task_from from))) end) → Led does old new (TakesAll shown stored takes folder name from heard hears output)
   batch_taken output end same came at some =
-      behind_list does folder (λ ss rest. (output.sites ≡ ss) × TakesWhere shown stored takes folder name kind words (named ss name) ss heard hears output.came rest) old first new sites listed
+      behind_list does folder (λ ss rest. (output.sites ≡ ss) × TakesWhere shown stored takes folder name from (named ss name) ss heard hears output.came rest) old first new sites listed
       (record {
         calls = calls_of some.calls;
         are = (
           same,
-          subst (λ s. TakesWhere shown stored takes folder name kind words s sites heard hears output.came (calls_of some.calls)) (sym known)
+          subst (λ s. TakesWhere shown stored takes folder name from s sites heard hears output.came (calls_of some.calls)) (sym known)
               (record {
                 keeper = keeper;
                 record_before = r;

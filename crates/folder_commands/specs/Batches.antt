@@ -15,13 +15,12 @@ use Rattle.site_folders.specs.Lists.{AfterList}
 use Rattle.site_folders.specs.Refusals.{IsNoSite}
 use Rattle.folder_commands.specs.Inputs.{AreNoted, ComesTo, FailsInput, Input}
 use Rattle.folder_commands.specs.Untraced.{none_untraced}
-use Rattle.folder_commands.specs.Words.{BeginsWords, ReadsWords, task_of}
+use Rattle.folder_commands.specs.Words.{BeginsFrom, InputsFrom, ReadsFrom, task_from}
 use Rattle.folder_commands.specs.declared.batches.BatchCame.{BatchCame}
 use Rattle.folder_commands.specs.declared.batches.BatchCame.TheVariants as batches
 use Rattle.folder_commands.specs.declared.batches.BatchOutput.{BatchOutput}
 use Rattle.folder_commands.specs.declared.batches.BatchRun.{BatchRun}
 use Rattle.folder_commands.specs.declared.batches.Counts.{Counts}
-use Rattle.folder_commands.specs.declared.words.WordKind.{WordKind}
 
 -- how a batch stands between two inputs: the record that the site shows, who is told, and what the inputs came to so far
 pub record Standing (S : Type 0) : Type 0 where
@@ -124,8 +123,8 @@ module _ {S K : Type 0} (shown : K → Option Record) (may : K → Record → Ty
 
 -- ---- the whole
 
-module _ {S K : Type 0} (shown : K → Option Record) (stored : K → Type 0) (takes : S → List Site → List ℕ → InputOutcome → S → Type 0) (folder name : List ℕ) (kind : WordKind) (words : List (List ℕ)) where
-  -- The site's file was opened once. The inputs of the words were read and taken in order, and the file was closed in the record to
+module _ {S K : Type 0} (shown : K → Option Record) (stored : K → Type 0) (takes : S → List Site → List ℕ → InputOutcome → S → Type 0) (folder name : List ℕ) (from : InputsFrom) where
+  -- The site's file was opened once. The inputs were read and taken in order, and the file was closed in the record to
   -- which the inputs lead, which a crash leaves there. What is noted is that of the documents that were captured, and of the items of
   -- which recalls were started.
   pub record TakesAt (site : ℕ) (sites : List Site) (heard hears : S) (came : BatchCame) (calls : List (FileCall K)) : Type 0 where
@@ -134,7 +133,7 @@ module _ {S K : Type 0} (shown : K → Option Record) (stored : K → Type 0) (t
     pub opened : KeepsSite shown stored sites site keeper record_before
     pub reads : List (FileCall K)
     pub last : Standing S
-    pub taken : TakesThose takes sites (ReadsWords kind words) (standing record_before heard (no_counts (task_of kind))) last reads
+    pub taken : TakesThose takes sites (ReadsFrom from) (standing record_before heard (no_counts (task_from from))) last reads
     pub told : hears ≡ last.sink
     pub came_is : came ≡ batches.Taken last.counts.totals last.counts.noted
     pub kept : K
@@ -151,7 +150,7 @@ module _ {S K : Type 0} (shown : K → Option Record) (stored : K → Type 0) (t
   TakesWhere None sites heard hears came calls = RefusesSite came × (hears ≡ heard) × (calls ≡ [])
   TakesWhere (Some site) sites heard hears came calls = TakesAt site sites heard hears came calls
 
-  -- the inputs of the words were taken at the site of a name
+  -- the inputs were taken at the site of a name
   abbrev pub TakesAll : S → S → BatchOutput → List (FileCall K) → Type 0
   TakesAll heard hears output calls =
       AfterList folder (λ sites rest. (output.sites ≡ sites) × TakesWhere (named sites name) sites heard hears output.came rest) calls
@@ -159,7 +158,7 @@ module _ {S K : Type 0} (shown : K → Option Record) (stored : K → Type 0) (t
   -- ---- where a fault ends it
 
   module _ (may : K → Record → Type 0) where
-    -- The site's file was opened. The first inputs of the words were read and taken in order, and each was told of; then came the
+    -- The site's file was opened. The first inputs were read and taken in order, and each was told of; then came the
     -- fault, of which is said what it came of. The file was closed, which shows, or may be opened in, the record to which those inputs
     -- lead, or the one after one input more; and a crash leaves that.
     pub record BreaksBatch (heard hears : S) (fault : Fault) (sites : List Site) (calls : List (FileCall K)) : Type 0 where
@@ -171,7 +170,7 @@ module _ {S K : Type 0} (shown : K → Option Record) (stored : K → Type 0) (t
       pub reads : List (FileCall K)
       pub kept : K
       pub broke :
-          BreaksOff takes sites shown may (BeginsWords kind words) (standing record_before heard (no_counts (task_of kind))) kept hears fault reads
+          BreaksOff takes sites shown may (BeginsFrom from) (standing record_before heard (no_counts (task_from from))) kept hears fault reads
       pub lasts : stored kept
       pub calls_are : calls ≡ opens_site folder sites site keeper ∷ reads ++ ClosedSite kept ∷ []
 

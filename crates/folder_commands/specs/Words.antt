@@ -139,3 +139,24 @@ pub record BeginsWords {K : Type 0} (kind : WordKind) (words : List (List ℕ)) 
 -- why the inputs of a word can't be read: a call failed, or memory ran out
 abbrev pub FailsToRead : {K : Type 0} → List ℕ → Fault → List (FileCall K) → Type 0
 FailsToRead path fault calls = (calls ≡ Failed path fault ∷ []) ⊎ ((fault ≡ NoMemory) × ((calls ≡ []) ⊎ ((bytes : List ℕ) × (calls ≡ ReadFile path bytes ∷ []))))
+
+-- ---- where the inputs of a site come from
+
+-- they are those of words; or these, as they are given, which count as those of a task
+pub data InputsFrom : Type 0 where
+  Words : WordKind → List (List ℕ) → InputsFrom
+  Texts : Task → List Input → InputsFrom
+
+abbrev pub task_from : InputsFrom → Task
+task_from (Words kind words) = task_of kind
+task_from (Texts task inputs) = task
+
+-- they were read, by these calls
+abbrev pub ReadsFrom : {K : Type 0} → InputsFrom → List Input → List (FileCall K) → Type 0
+ReadsFrom (Words kind words) inputs calls = ReadsWords kind words inputs calls
+ReadsFrom (Texts task given) inputs calls = (inputs ≡ given) × (calls ≡ [])
+
+-- up to a fault, some of them were
+abbrev pub BeginsFrom : {K : Type 0} → InputsFrom → List Input → List (FileCall K) → Type 0
+BeginsFrom (Words kind words) inputs calls = BeginsWords kind words inputs calls
+BeginsFrom (Texts task given) inputs calls = (inputs ≡ given) × (calls ≡ [])

@@ -6,7 +6,7 @@ ghost use Rattle.recall_outcomes.specs.Batches.{none_yet};
 ghost use Rattle.site_folders.specs.FileCalls.{Led};
 ghost use Rattle.folder_commands.specs.Batches.{BatchFails, TakesAll, TakesEach, TakesRead, no_counts};
 ghost use Rattle.folder_commands.specs.Inputs.{input_of};
-ghost use Rattle.folder_commands.specs.Words.{BeginsLines, BeginsWord, BeginsWords, ReadsLines, ReadsWord, ReadsWords};
+ghost use Rattle.folder_commands.specs.Words.{BeginsLines, BeginsWord, BeginsWords, ReadsLines, ReadsWord, ReadsWords, Texts, Words};
 
 use crate::inputs::{Doing, Given, InputNotes, done_with};
 use crate::untraced::none_untraced;
@@ -94,14 +94,15 @@ pub fn take_inputs<K: SiteKeeper, F: Files<K>, W, S: InputSink<W>>(
     // record that the one before it left, and told to the sink once it is kept, in order; then the file is closed in
     // the record to which they lead, which a crash leaves there.
     ensures all { IfOk result (λ told. Led F.does files.old files.new
-        (TakesAll K.shown K.stored (S.takes sink.now) folder.now site.now batch.now.kind
-        (map (λ w. w.now) batch.now.words.now) output.old output.new told)) }
+        (TakesAll K.shown K.stored (S.takes sink.now) folder.now site.now
+        (Words batch.now.kind (map (λ w. w.now) batch.now.words.now)) output.old output.new told)) }
     // Nothing was changed or told; or those that were told are kept, in order, the fault is that of the file of inputs,
     // of the next input's step, of the sink, or of memory, and the file was closed in the record to which those inputs
     // lead, or in the one after one input more.
     ensures failed { IfErr result (λ fault. Led F.does files.old files.new
-        (BatchFails K.shown K.stored (S.takes sink.now) folder.now site.now batch.now.kind
-        (map (λ w. w.now) batch.now.words.now) K.may output.old output.new fault)) }
+        (BatchFails K.shown K.stored (S.takes sink.now) folder.now site.now
+        (Words batch.now.kind (map (λ w. w.now) batch.now.words.now)) K.may output.old output.new
+        fault)) }
 {
     let sites = sites_of(alloc, files, folder)?;
     let Some(number) = sites.find(site) else {
@@ -120,6 +121,58 @@ pub fn take_inputs<K: SiteKeeper, F: Files<K>, W, S: InputSink<W>>(
         counts,
     };
     let done = take_all(&mut run, files, sink, output, batch);
+    files.close_site(run.keeper);
+    done?;
+    Ok(BatchOutput {
+        sites: run.sites,
+        came: BatchCame::Taken {
+            totals: run.counts.totals,
+            noted: run.counts.noted,
+        },
+    })
+}
+
+/// Takes inputs that are given at a site of a folder, as [`take_inputs`] takes those of words, to be counted as those of
+/// a task.
+///
+/// # Errors
+/// Those of [`take_inputs`], but for `Read` of a file of inputs.
+pub fn take_texts<K: SiteKeeper, F: Files<K>, W, S: InputSink<W>>(
+    alloc: Global,
+    files: &mut F,
+    folder: &str,
+    site: &str,
+    task: Task,
+    inputs: Vec<Given>,
+    sink: &S,
+    output: &mut W,
+) -> Result<BatchOutput, Fault>
+    // As `take_inputs` has it, of these inputs.
+    ensures all { IfOk result (λ told. Led F.does files.old files.new
+        (TakesAll K.shown K.stored (S.takes sink.now) folder.now site.now
+        (Texts task (map input_of inputs.items)) output.old output.new told)) }
+    // And so of a fault; no file of inputs is read.
+    ensures failed { IfErr result (λ fault. Led F.does files.old files.new
+        (BatchFails K.shown K.stored (S.takes sink.now) folder.now site.now
+        (Texts task (map input_of inputs.items)) K.may output.old output.new fault)) }
+{
+    let sites = sites_of(alloc, files, folder)?;
+    let Some(number) = sites.find(site) else {
+        let outcome = no_site(alloc, site)?;
+        return Ok(BatchOutput {
+            sites,
+            came: BatchCame::NoSite(outcome),
+        });
+    };
+    let keeper = open_site(alloc, files, folder, &sites, number)?;
+    let counts = no_counts(task);
+    let mut run = BatchRun {
+        alloc,
+        sites,
+        keeper,
+        counts,
+    };
+    let done = take_each(&mut run, sink, output, inputs);
     files.close_site(run.keeper);
     done?;
     Ok(BatchOutput {

@@ -25,7 +25,7 @@ use std::str;
 
 /// What is done with an input.
 #[derive(Clone, Copy, Debug)]
-pub(crate) enum Doing {
+pub enum Doing {
     /// It is captured, as a document.
     Capture,
     /// A recall is started of the item that it spells in this way.
@@ -44,10 +44,10 @@ pub struct InputNotes {
 
 /// An input: what is done with it, and where it comes from.
 #[derive(Debug, Drop)]
-pub(crate) struct Given {
-    pub(crate) doing: Doing,
-    pub(crate) source: String,
-    pub(crate) bytes: Vec<u8>,
+pub struct Given {
+    pub doing: Doing,
+    pub source: String,
+    pub bytes: Vec<u8>,
 }
 
 /// What comes of an input at a site, and what is noted then.

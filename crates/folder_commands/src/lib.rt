@@ -19,9 +19,9 @@ mod steps;
 mod untraced;
 mod words;
 
-pub use batches::{BatchCame, BatchOutput, InputSink, take_inputs};
+pub use batches::{BatchCame, BatchOutput, InputSink, take_inputs, take_texts};
 pub use copies::copy;
-pub use inputs::InputNotes;
+pub use inputs::{Doing, Given, InputNotes};
 pub use lints::{LintCame, LintOutput, LintSink, lint_documents};
 pub use making::init;
 pub use runs::{RunTerms, run_sites};

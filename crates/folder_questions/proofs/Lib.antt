@@ -7,4 +7,5 @@ mod LateLemmas
 mod MissedLemmas
 mod NoneLemmas
 mod PackLemmas
+mod PlanLemmas
 mod RefusalLemmas

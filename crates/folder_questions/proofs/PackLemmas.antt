@@ -17,7 +17,7 @@ use Rattle.trace_core.proofs.PlaceLists.{contains-from_filter}
 use Rattle.trace_core.proofs.SetMembers.{contains-from_map, contains_more}
 use Rattle.trace_core.specs.Chains.{sites_at}
 use Rattle.trace_core.specs.Sites.{SiteEvents}
-use Rattle.folder_questions.specs.Packs.{ArePackDocuments, AreThose, HaveDocuments, IsDocumentOf, IsEventAt, IsEventOf, is_asked}
+use Rattle.folder_questions.specs.Packs.{ArePackDocuments, AreThose, HasEvent, HaveDocuments, IsDocumentOf, IsEventAt, IsEventOf, is_asked}
 use Rattle.folder_questions.specs.declared.packs.PackDocument.{PackDocument}
 
 abbrev pub pack_of : PackDocument → GapPack
@@ -25,16 +25,20 @@ pack_of d = d.pack
 
 -- one more document is added
 pub document_more : (sites : List SiteEvents) (p : GapPack) (documents new : List PackDocument) (d : PackDocument) → new ≡ documents ++ d ∷ [] → d.pack ≡ p
-    → (IsGapPack sites p → IsDocumentOf sites p d.document) → HaveDocuments sites documents → HaveDocuments sites new
+    → (HasEvent sites p → IsDocumentOf sites p d.document) → HaveDocuments sites documents → HaveDocuments sites new
 document_more sites p documents new d is same has so_far e there closes = ⊎_elim
     (λ before. so_far e before closes)
     (λ last. ⊎_elim
     (λ here.
     let its : e.pack ≡ p = ap pack_of (sym here) ∙ same in
-    subst (λ (x : PackDocument). IsDocumentOf sites x.pack x.document) here (subst (λ q. IsDocumentOf sites q d.document) (sym same) (has (subst (IsGapPack sites) its closes))))
+    subst (λ (x : PackDocument). IsDocumentOf sites x.pack x.document) here (subst (λ q. IsDocumentOf sites q d.document) (sym same) (has (subst (HasEvent sites) its closes))))
     (λ none. absurd (contains_none e none))
     (contains_cases d e [] last))
     (Contains-append_cases documents (d ∷ []) e (subst (λ xs. Contains xs e) is there))
+
+-- the event by which a gap is closed is there
+gap_has_event : (sites : List SiteEvents) (p : GapPack) → IsGapPack sites p → HasEvent sites p
+gap_has_event sites p (s, there, closes) = (closes.event, (closes.packer, closes.listed, (closes.by, closes.stands)))
 
 -- all of them
 pub are_documents : (sites : List SiteEvents) (asked : Option ℕ) (packs : List GapPack) (documents : List PackDocument) → IsStrictlySortedBy gap_pack_cmp packs
@@ -44,7 +48,7 @@ are_documents sites asked packs documents ascending exact those has = record {
   ascending = ascending;
   exact = exact;
   those = those;
-  each = λ d there. has d there ((exact d.pack).0 (contains-from_filter (is_asked asked) packs d.pack (subst (λ xs. Contains xs d.pack) those (contains-map pack_of documents d there))).0);
+  each = λ d there. has d there (gap_has_event sites d.pack ((exact d.pack).0 (contains-from_filter (is_asked asked) packs d.pack (subst (λ xs. Contains xs d.pack) those (contains-map pack_of documents d there))).0));
 }
 
 -- ---- the event
@@ -54,10 +58,6 @@ pub its_document : (sites : List SiteEvents) (pack : GapPack) (e : Content) (res
 its_document sites pack e (Ok None) is none read = (e, is, none refl)
 its_document sites pack e (Ok (Some text)) is none read = (e, is, read)
 its_document sites pack e (Err fault) is none read = tt
-
--- an event by which a gap is closed is there
-pub no_event : (sites : List SiteEvents) (pack : GapPack) → ((e : Content) → IsEventOf sites pack e → ⊥) → IsGapPack sites pack → ⊥
-no_event sites pack none (s, there, closes) = none closes.event (closes.packer, closes.listed, (closes.by, closes.stands))
 
 module _ (refs : List (Bor SiteEvents)) (pack : GapPack) where
   -- none of the sites so far has it

@@ -9,6 +9,7 @@ pub mod Knowers
 pub mod Laws
 pub mod Missed
 pub mod Packs
+pub mod Plans
 pub mod Reports
 pub mod SiteItems
 pub mod Standings

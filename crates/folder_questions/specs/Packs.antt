@@ -44,9 +44,12 @@ abbrev pub IsDocumentOf : List SiteEvents → GapPack → Option (String Global)
 IsDocumentOf sites pack document =
     (e : Content) × IsEventOf sites pack e × MatchOption document (IsNotWritten e) (λ (text : String Global). IsReadAs e (string_bytes text))
 
--- so of each that closes a gap
+-- so of each that tells of an event
+abbrev pub HasEvent : List SiteEvents → GapPack → Type 0
+HasEvent sites pack = (e : Content) × IsEventOf sites pack e
+
 abbrev pub HaveDocuments : List SiteEvents → List PackDocument → Type 0
-HaveDocuments sites documents = (d : PackDocument) → Contains documents d → IsGapPack sites d.pack → IsDocumentOf sites d.pack d.document
+HaveDocuments sites documents = (d : PackDocument) → Contains documents d → HasEvent sites d.pack → IsDocumentOf sites d.pack d.document
 
 -- they are of those that are asked for, in order
 abbrev pub AreThose : Option ℕ → List GapPack → List PackDocument → Type 0

@@ -69,7 +69,11 @@ impl Question for MissedOf<'_> {
 }
 
 /// What a recall of a root misses.
-fn missed_by(alloc: Global, records: &[&SiteState], root: &Pair) -> Result<MissedReach, AllocError>
+pub(crate) fn missed_by(
+    alloc: Global,
+    records: &[&SiteState],
+    root: &Pair,
+) -> Result<MissedReach, AllocError>
     requires all { AreAllSites (records_at records.now) }
     ensures { IfOk result (AreMissedBy (records_at records.now) root.now) }
 {

@@ -2,10 +2,9 @@
 
 ghost use Rattle.std.specs.Prelude.{◌≡◌, ◌++◌, ◌∷◌, [], List, None, IfOk, IfSome, OnOk};
 ghost use Rattle.event_json.specs.Events.{Content};
-ghost use Rattle.gap_core.specs.GapPacks.{IsGapPack};
 ghost use Rattle.gap_core.specs.declared.packs.GapPack.{GapPack};
 ghost use Rattle.trace_core.specs.Chains.{sites_at};
-ghost use Rattle.folder_questions.specs.Packs.{ArePackDocuments, AreThose, HaveDocuments, IsDocumentOf, IsEventAt, IsEventOf, is_asked};
+ghost use Rattle.folder_questions.specs.Packs.{ArePackDocuments, AreThose, HasEvent, HaveDocuments, IsDocumentOf, IsEventAt, IsEventOf, is_asked};
 
 use event_json::{Event, SiteNo, Sites};
 use event_writing::packing_document;
@@ -84,7 +83,7 @@ impl Question for PacksOf<'_> {
 }
 
 /// The documents of those events that are asked for.
-fn pack_documents(
+pub(crate) fn pack_documents(
     alloc: Global,
     sites: &[&Captured],
     asked: &Option<SiteNo>,
@@ -97,7 +96,7 @@ fn pack_documents(
 }
 
 /// The documents of those of these events that are asked for.
-fn documents_of(
+pub(crate) fn documents_of(
     alloc: Global,
     sites: &[&Captured],
     asked: &Option<SiteNo>,
@@ -151,7 +150,7 @@ fn document_of(
     sites: &[&Captured],
     pack: &GapPack,
 ) -> Result<Option<String>, AllocError>
-    ensures { IsGapPack (sites_at sites.now) pack.now
+    ensures { HasEvent (sites_at sites.now) pack.now
         → IfOk result (IsDocumentOf (sites_at sites.now) pack.now) }
 {
     match event_of(sites, pack) {

@@ -5,14 +5,14 @@ use Rattle.std.specs.List.{Any, Contains}
 use Rattle.std.specs.Map.{lookup}
 use Rattle.trace_core.proofs.Members.{contains_none}
 use Rattle.gap_core.specs.Adding.{AddsTo, AddsToList, ByOne, NotesOne}
-use Rattle.gap_core.specs.GapPacks.{Edges, IsEdgeOf, KeepsEdge, or_no_items}
+use Rattle.gap_core.specs.GapPacks.{EdgeMap, IsEdgeOf, KeepsEdge, or_no_items}
 use Rattle.gap_core.specs.Sources.{item_cmp}
 use Rattle.gap_core.specs.declared.gap_items.GapItem.{GapItem}
 use Rattle.gap_core.proofs.Notings.{noted_members}
 use Rattle.gap_core.proofs.SourceLists.{item_exact, one_item, other_key}
 
 -- an index in which one list is changed
-module _ (old new : Edges) (i : List ℕ) (ks : List (List ℕ)) (upd : UpdatesBy item_cmp (item_cmp i) old new (Some ks))
+module _ (old new : EdgeMap) (i : List ℕ) (ks : List (List ℕ)) (upd : UpdatesBy item_cmp (item_cmp i) old new (Some ks))
     (was : Option (List (List ℕ))) (found : get item_cmp old i ≡ was) where
   -- elsewhere all is as it was
   elsewhere : (j : List ℕ) → j ≢ i → get item_cmp new j ≡ get item_cmp old j
@@ -46,35 +46,35 @@ module _ (old new : Edges) (i : List ℕ) (ks : List (List ℕ)) (upd : UpdatesB
       (one_item j i)
 
 -- an item more of a container
-pub edge_noted : (old new : Edges) (i child : List ℕ) (was ks : List (List ℕ)) → UpdatesBy item_cmp (item_cmp i) old new (Some ks) → get item_cmp old i ≡ Some was → NotesOne child was ks
+pub edge_noted : (old new : EdgeMap) (i child : List ℕ) (was ks : List (List ℕ)) → UpdatesBy item_cmp (item_cmp i) old new (Some ks) → get item_cmp old i ≡ Some was → NotesOne child was ks
     → AddsTo (KeepsEdge old) (KeepsEdge new) (λ m. (i ≡ m.0) × (child ≡ m.1))
 edge_noted old new i child was ks upd found notes =
     list_changed old new i ks upd (Some was) found (λ x. child ≡ x) (noted_members (λ x. child ≡ x) was ks notes)
 
 -- a container that is new, with its first item
-pub first_edge : (old mid new : Edges) (i j child : List ℕ) (ks : List (List ℕ)) → mid ≡ old → j ≡ i → get item_cmp old i ≡ None
+pub first_edge : (old mid new : EdgeMap) (i j child : List ℕ) (ks : List (List ℕ)) → mid ≡ old → j ≡ i → get item_cmp old i ≡ None
     → UpdatesBy item_cmp (item_cmp j) mid new (Some ks) → ((x : List ℕ) → Contains ks x ↔ (child ≡ x)) → AddsTo (KeepsEdge old) (KeepsEdge new) (λ m. (i ≡ m.0) × (child ≡ m.1))
 first_edge old mid new i j child ks same copied absent upd first =
     let at : UpdatesBy item_cmp (item_cmp i) old new (Some ks) = subst (λ (x : List ℕ). UpdatesBy item_cmp (item_cmp x) old new (Some ks)) copied
-    (subst (λ (x : Edges). UpdatesBy item_cmp (item_cmp j) x new (Some ks)) same upd) in
+    (subst (λ (x : EdgeMap). UpdatesBy item_cmp (item_cmp j) x new (Some ks)) same upd) in
     list_changed old new i ks at None absent (λ x. child ≡ x) (λ x. (
       λ h. inr ((first x).0 h),
       λ h. ⊎_elim (λ none. absurd (contains_none x none)) (λ is. (first x).1 is) h,
     ))
 
 -- whether one of some items stands in a gap in the container
-pub edges_told : (edges : Edges) (container : List ℕ) (list items : List (List ℕ)) → Some list ≡ get item_cmp edges container → Any (Contains list) items ↔ Any (λ i. KeepsEdge edges (container, i)) items
+pub edges_told : (edges : EdgeMap) (container : List ℕ) (list items : List (List ℕ)) → Some list ≡ get item_cmp edges container → Any (Contains list) items ↔ Any (λ i. KeepsEdge edges (container, i)) items
 edges_told edges container list items found =
     let same : list ≡ or_no_items (get item_cmp edges container) = ap or_no_items found in (
       λ (k, i, lt, at, there). (k, i, lt, at, subst (λ xs. Contains xs i) same there),
       λ (k, i, lt, at, there). (k, i, lt, at, subst (λ xs. Contains xs i) (sym same) there),
     )
 
-pub none_told : (edges : Edges) (container : List ℕ) (items : List (List ℕ)) → None ≡ get item_cmp edges container → Any (λ i. KeepsEdge edges (container, i)) items → ⊥
+pub none_told : (edges : EdgeMap) (container : List ℕ) (items : List (List ℕ)) → None ≡ get item_cmp edges container → Any (λ i. KeepsEdge edges (container, i)) items → ⊥
 none_told edges container items absent (k, i, lt, at, there) = contains_none i (subst (λ xs. Contains xs i) (sym (ap or_no_items absent)) there)
 
 -- no edges at first
-pub no_edges : (edges : Edges) (gaps : List GapItem) → edges.entries ≡ [] → AddsTo (λ m. ⊥) (KeepsEdge edges) (ByOne (take 0 gaps) IsEdgeOf)
+pub no_edges : (edges : EdgeMap) (gaps : List GapItem) → edges.entries ≡ [] → AddsTo (λ m. ⊥) (KeepsEdge edges) (ByOne (take 0 gaps) IsEdgeOf)
 no_edges edges gaps nothing m = (
   λ h. absurd (contains_none m.1 (subst (λ (es : List (List ℕ × List (List ℕ))). Contains (or_no_items (lookup (is_at (item_cmp m.0)) es)) m.1) nothing h)),
   λ h. ⊎_elim (λ none. absurd none) (λ (g, there, edge). absurd (contains_none g there)) h,

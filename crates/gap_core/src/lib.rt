@@ -39,7 +39,7 @@ pub use missed::missed_pairs;
 pub use missed_reach::missed_among;
 pub use misses::{missed_of, reached_from};
 pub use outside::Destination;
-pub use packs::{GapPack, packs_to_capture};
+pub use packs::{GapPack, packs_of_items, packs_to_capture};
 pub use searches::known_packings;
 pub use sources::{Source, Sources, sources_of};
 pub use unseen::{UnseenItem, unseen_items};

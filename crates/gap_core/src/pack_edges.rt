@@ -66,7 +66,7 @@ pub fn has_edge(edges: &Edges, container: &Epc, items: &[Epc]) -> bool
 }
 
 /// Whether one of some items is in a list.
-fn has_one(list: &ItemList, items: &[Epc]) -> bool
+pub fn has_one(list: &ItemList, items: &[Epc]) -> bool
     ensures { IsTrue result ↔ Any (Contains list.now) items.now }
 {
     items.iter().any(|item| list.has(item))

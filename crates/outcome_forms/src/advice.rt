@@ -27,7 +27,7 @@ pub(crate) fn advice(outcome: &Outcome) -> Option<&'static str> {
             )
         }
         Outcome::Withheld => Some(
-            "note: nothing was sent; have those sites capture the packings, which `recall packs` prints, and run again, or run without `--unless-gaps`\n",
+            "note: nothing was sent; have those sites capture the packings by `recall packs`, and run again, or run without `--unless-gaps`\n",
         ),
         Outcome::Audited {
             recalls,
@@ -36,7 +36,7 @@ pub(crate) fn advice(outcome: &Outcome) -> Option<&'static str> {
         } => or_none(recalls.is_empty(), no_recall(*ended)),
         Outcome::Gaps { gaps, coded: _ } => or_none(
             gaps.packed.lines.len() > 0,
-            "note: past the site that shipped such a container on, a recall finds nothing of what others packed into it: before one reaches it, have that site capture the packing, which `recall packs` prints\n",
+            "note: past the site that shipped such a container on, a recall finds nothing of what others packed into it: before one reaches it, have that site capture the packing by `recall packs`\n",
         ),
         Outcome::Missed {
             recall: _,
@@ -44,7 +44,7 @@ pub(crate) fn advice(outcome: &Outcome) -> Option<&'static str> {
             coded: _,
         } => or_none(
             some_unheld(missed),
-            "note: no recall holds all of this: have the sites that sent it on capture the packings, which `recall packs` prints; where that is refused with `Blocked`, capture them at the sites of these pairs, start a recall of each item there, and warn the destinations of what left\n",
+            "note: no recall holds all of this: `recall start <dir> <site> --gaps <recall>` begins a recall of each item at the site of its pair; warn the destinations of what left\n",
         ),
         Outcome::Refused(whys) => or_none(
             whys.iter().any(|why| is_blocked(why)),

@@ -1,7 +1,7 @@
 use Rattle.std.proofs.Common.{rules, refl}
 use Rattle.std.proofs.KnownBytes.{Keeps-refl}
 use Rattle.command_line.specs.CommandLines.{texts_of}
-use Rattle.command_line.proofs.Endings.{ends_batch, ends_files, ends_lint, ends_mistaken, ends_packs, ends_convert}
+use Rattle.command_line.proofs.Endings.{ends_batch, ends_files, ends_lint, ends_mistaken, ends_packs, ends_plan, ends_convert}
 use Rattle.command_line.proofs.Turns.{has_turns}
 use Rattle.command_line.proofs.commands.answer.Goals as goal
 
@@ -39,6 +39,12 @@ returns-in-Ok-Packs g c =
     ends_packs g.F.Files.does g.F.Files.waits g.F.LimitsDocuments.limits g.F.Files.knows g.K.SiteKeeper.shown g.K.SiteKeeper.failed g.K.SiteKeeper.may g.K.SiteKeeper.reopens g.G.Gate.gives_up g.K.SiteKeeper.stored
     g.W.Write.contents
     c.args.words.now _ _ _ _ _ _ (rw c.in-Ok-Packs.field-0-is at c.in-Ok-Packs.ensures) (search rules) c.pack_files.ensures
+
+pub returns-in-Ok-Plan : goal.returns-in-Ok-Plan
+returns-in-Ok-Plan g c =
+    ends_plan g.F.Files.does g.F.Files.waits g.F.LimitsDocuments.limits g.F.Files.knows g.K.SiteKeeper.shown g.K.SiteKeeper.failed g.K.SiteKeeper.may g.K.SiteKeeper.reopens g.G.Gate.gives_up g.K.SiteKeeper.stored
+    g.W.Write.contents
+    c.args.words.now _ _ _ _ _ _ (rw c.in-Ok-Plan.field-0-is at c.in-Ok-Plan.ensures) (search rules) c.do_plan.ensures
 
 pub returns-in-Ok-Convert : goal.returns-in-Ok-Convert
 returns-in-Ok-Convert g c =

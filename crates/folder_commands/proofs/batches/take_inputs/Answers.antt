@@ -2,7 +2,7 @@ use Rattle.std.proofs.Common.{◌≡◌, [], map, refl, sym, subst, ap, ◌∙�
 use Rattle.site_folders.proofs.CallsInTurn.{behind_list, handed_on, led_so}
 use Rattle.event_json.specs.Sites.{named}
 use Rattle.folder_commands.specs.Batches.{TakesWhere, no_counts, standing}
-use Rattle.folder_commands.specs.Words.{task_of}
+use Rattle.folder_commands.specs.Words.{Words, task_of}
 use Rattle.folder_commands.specs.declared.batches.BatchCame.TheVariants.{NoSite}
 use Rattle.folder_commands.proofs.BatchLemmas.{batch_broke, batch_taken}
 use Rattle.folder_commands.proofs.StepLemmas.{err_of, list_out, ok_of, vain_led}
@@ -22,7 +22,7 @@ returns-in_default-clause-all g c =
     let sites = c.in_ok-sites.sites in
     let name = c.args.site.now in
     let words = map (λ w. w.now) c.args.batch.now.words.now in
-    let Where = TakesWhere g.K.SiteKeeper.shown g.K.SiteKeeper.stored (g.S.InputSink.takes c.args.sink.now) c.args.folder.now name c.args.batch.now.kind words in
+    let Where = TakesWhere g.K.SiteKeeper.shown g.K.SiteKeeper.stored (g.S.InputSink.takes c.args.sink.now) c.args.folder.now name (Words c.args.batch.now.kind words) in
     let unknown = sym c.find.ensures ∙ c.in_default.is in
     behind_list does c.args.folder.now (λ ss rest. (_ ≡ ss) × Where (named ss name) ss c.args.output.now c.args.output.now _ rest) _ _ _ sites c.in_ok-sites.ensures.read
     (record { calls = []; are = (refl, subst (λ s. Where s sites c.args.output.now c.args.output.now (NoSite c.in_ok-outcome.outcome) []) (sym unknown) (c.in_ok-outcome.ensures, refl, refl)); led = refl })
@@ -46,7 +46,7 @@ returns-in_err-done-clause-failed g c =
     let counts = c.no_counts-counts.ensures ∙ ap no_counts c.task_of.ensures in
     let did = c.take_all-done.ensures.came start (record { shows = keeps.shows.shows; hears = refl; counts = sym counts; lists = refl }) in
     handed_on c.from_residual-in_err-done.result _ _ c.from_residual-in_err-done.ensures.1
-    (batch_broke shown may stored takes does c.args.folder.now c.args.site.now kind words _ _ _ _ _ c.in_ok-sites.sites c.in-Some.number c.in_ok-keeper.keeper r c.in_ok-sites.ensures.read (sym c.find.ensures ∙ c.in-Some.is) keeps c.in_ok-keeper.ensures.opened c.take_all-done.new.run c.args.output.now c.take_all-done.new.output (c.take_all-done.ensures.lasts keeps.lasts) c.close_site.ensures _
+    (batch_broke shown may stored takes does c.args.folder.now c.args.site.now (Words kind words) _ _ _ _ _ c.in_ok-sites.sites c.in-Some.number c.in_ok-keeper.keeper r c.in_ok-sites.ensures.read (sym c.find.ensures ∙ c.in-Some.is) keeps c.in_ok-keeper.ensures.opened c.take_all-done.new.run c.args.output.now c.take_all-done.new.output (c.take_all-done.ensures.lasts keeps.lasts) c.close_site.ensures _
     (err_of _ _ c.take_all-done.result _ c.in_err-done.was did))
 
 pub returns-clause-all : goal.returns-clause-all
@@ -63,4 +63,4 @@ returns-clause-all g c =
     let counts = c.no_counts-counts.ensures ∙ ap no_counts c.task_of.ensures in
     let did = c.take_all-done.ensures.came start (record { shows = keeps.shows.shows; hears = refl; counts = sym counts; lists = refl }) in
     let (end, stands, some) = ok_of _ _ c.take_all-done.result _ c.in_ok-done.was did in
-    batch_taken shown may stored takes does c.args.folder.now c.args.site.now kind words _ _ _ _ _ c.in_ok-sites.sites c.in-Some.number c.in_ok-keeper.keeper r c.in_ok-sites.ensures.read (sym c.find.ensures ∙ c.in-Some.is) keeps c.in_ok-keeper.ensures.opened c.take_all-done.new.run c.args.output.now c.take_all-done.new.output (c.take_all-done.ensures.lasts keeps.lasts) c.close_site.ensures _ end stands.lists refl stands some
+    batch_taken shown may stored takes does c.args.folder.now c.args.site.now (Words kind words) _ _ _ _ _ c.in_ok-sites.sites c.in-Some.number c.in_ok-keeper.keeper r c.in_ok-sites.ensures.read (sym c.find.ensures ∙ c.in-Some.is) keeps c.in_ok-keeper.ensures.opened c.take_all-done.new.run c.args.output.now c.take_all-done.new.output (c.take_all-done.ensures.lasts keeps.lasts) c.close_site.ensures _ end stands.lists refl stands some

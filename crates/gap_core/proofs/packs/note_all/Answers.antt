@@ -13,10 +13,10 @@ pub loop-from-preserved : goal.loop-from-preserved
 loop-from-preserved c =
     let own = c.index-sites-from.result in
     let stands = site_stands c.args.sites.now c.loop-from.from own (omega (arith, c.loop-from-test.true)) ∙ ap (λ (r : Bor SiteEvents). Some r.now) (sym c.index-sites-from.is) in
-    more_before (IsPackFrom (sites_at c.args.sites.now) c.args.known.now c.args.edges.now c.args.site c.args.at) c.loop-from.from (Contains c.args.packs.now.items) (Contains c.loop-from.packs.items) (Contains c.note_site.new.packs.items) c.loop-from.invariant
-    (site_packs (sites_at c.args.sites.now) c.args.known.now c.args.edges.now c.args.site c.args.at c.loop-from.from own.now c.loop-from.packs.items c.note_site.new.packs.items stands c.in_ok-note_site.ensures)
+    more_before (IsPackFrom (sites_at c.args.sites.now) c.args.known.now c.args.wanted.now c.args.site c.args.at) c.loop-from.from (Contains c.args.packs.now.items) (Contains c.loop-from.packs.items) (Contains c.note_site.new.packs.items) c.loop-from.invariant
+    (site_packs (sites_at c.args.sites.now) c.args.known.now c.args.wanted.now c.args.site c.args.at c.loop-from.from own.now c.loop-from.packs.items c.note_site.new.packs.items stands c.in_ok-note_site.ensures)
 
 pub returns : goal.returns
 returns c =
-    all_packs_from (sites_at c.args.sites.now) c.args.known.now c.args.edges.now c.args.site c.args.at c.loop-from.from c.args.packs.now.items c.loop-from.packs.items
+    all_packs_from (sites_at c.args.sites.now) c.args.known.now c.args.wanted.now c.args.site c.args.at c.loop-from.from c.args.packs.now.items c.loop-from.packs.items
     (as_many_sites c.args.sites.now c.loop-from.from (omega (arith, c.loop-from-test.false))) c.loop-from.invariant

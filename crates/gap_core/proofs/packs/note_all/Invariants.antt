@@ -6,4 +6,4 @@ use Rattle.gap_core.proofs.packs.note_all.Given as goal
 
 -- those of the sites so far
 abbrev pub invariant-loop-from : goal.invariant-loop-from
-invariant-loop-from l = AddsToList l.fn.packs.items l.packs.items (Before l.from (IsPackFrom (sites_at l.sites) l.known l.edges l.site l.at))
+invariant-loop-from l = AddsToList l.fn.packs.items l.packs.items (Before l.from (IsPackFrom (sites_at l.sites) l.known l.wanted l.site l.at))

@@ -7,10 +7,10 @@ use Rattle.gap_core.proofs.packs.note_site.Goals as goal
 
 pub loop-place-preserved : goal.loop-place-preserved
 loop-place-preserved c =
-    more_before (IsPackOnce c.args.known.now c.args.edges.now c.args.site c.args.source.at c.args.source.from c.args.packer.now) c.loop-place.place (Contains c.args.packs.now.items) (Contains c.loop-place.packs.items) (Contains c.note_event.new.packs.items)
+    more_before (IsPackOnce c.args.known.now c.args.wanted.now c.args.site c.args.source.at c.args.source.from c.args.packer.now) c.loop-place.place (Contains c.args.packs.now.items) (Contains c.loop-place.packs.items) (Contains c.note_event.new.packs.items)
     c.loop-place.invariant c.in_ok-note_event.ensures
 
 pub returns : goal.returns
 returns c =
-    all_in c.args.known.now c.args.edges.now c.args.source.at c.args.source.from c.args.site c.args.packer.now c.loop-place.place c.args.packs.now.items c.loop-place.packs.items
+    all_in c.args.known.now c.args.wanted.now c.args.source.at c.args.source.from c.args.site c.args.packer.now c.loop-place.place c.args.packs.now.items c.loop-place.packs.items
     (omega (arith, c.loop-place-test.false, c.len-place-end.ensures)) c.loop-place.invariant
