@@ -95,8 +95,8 @@ pub fn run_command<
     ensures sim { SimRuns W.contents files.old files.new
         (streams I.remaining input.old output.old) (streams I.remaining input.new output.new)
         result words.now }
-    // Whatever a command comes to, its calls of the files, or each part of what is planned, are acts of single sites, by
-    // frames that these gave each other, wherever the files go on.
+    // Whatever a command comes to, its calls of the files, or those of each part of a plan, are acts of single sites,
+    // by frames that these gave each other, wherever the files go on.
     ensures acts { LeadByActs K.shown K.may F.does files.old files.new }
 {
     answer(rt, alloc, keys, files, gate, words, input, output, errors)

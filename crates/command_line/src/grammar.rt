@@ -116,7 +116,7 @@ fn start<'a>(alloc: Global) -> Result<Command<'a>, AllocError>
         .arg(flag(
             alloc,
             "gaps",
-            "Close the site's gaps, and recall there what the recall misses that is given as <epc>",
+            "Recall at the site what the recall misses that is given as <epc>",
         ))?
         .arg(key(alloc))?
         .arg(scan(alloc))?

@@ -46,8 +46,8 @@ For more information, try '--help'.
 
 /// What is wrong where a start that is planned is asked for with something else.
 pub(crate) const NO_PLAN: &str = "\
-error: '--contents' takes one EPC and '--gaps' one recall, each without the other and without '--from' and '--dry-run', and
-'--gaps' without '--key' and '--scan'
+error: '--contents' takes one EPC and '--gaps' one recall, each without the other and without '--from' and
+'--dry-run', and '--gaps' without '--key' and '--scan'
 
 For more information, try '--help'.
 ";
@@ -82,7 +82,7 @@ Questions that change nothing:
   recall items chain dairy --in <epc>            what lies in an item, by the packings of all sites
   recall gaps chain                              what sites shipped on that others packed, unseen by recalls
   recall gaps chain dairy#1                      what that recall misses because of it
-  recall packs chain --site dairy                the events that close these gaps, as documents to capture
+  recall packs chain --site dairy                captures the packings that close these gaps
   recall coverage chain                          what each site captured, and from when to when
   recall lint sites.txt monday.json              all that is wrong in documents, before they are captured
   recall convert monday.json                     documents as others write them, as `capture --lines` takes them
@@ -168,8 +168,8 @@ With `--key` the item is given as this program prints it, with `--scan` as a sca
 element strings with a GTIN (01) and a serial number (21) or a lot (10), or an SSCC (00), in brackets or not.
 
 With `--contents` each item that lies in the given one has a recall, too, by the packings of all sites. With
-`--gaps` a recall is given: the site captures the packings that close its gaps, as `recall packs` does, and
-starts a recall of each item there that the given recall misses and that no recall holds.
+`--gaps` a recall is given: each item at the site that it misses and that no recall holds has a recall, and
+before that the packings are captured that tell the site where those lie that it knows nothing of.
 
 Examples:
   recall start chain dairy urn:epc:id:sgtin:0614141.112345.400 --dry-run

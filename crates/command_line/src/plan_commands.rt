@@ -41,7 +41,7 @@ pub(crate) struct PlanCommand<'a> {
 pub(crate) enum Aim<'a> {
     /// Recalls of an item and of all that lies in it are started at a site.
     Contents { site: &'a str, item: Spelled<'a> },
-    /// A site closes its packed gaps, and starts recalls of what a recall misses there.
+    /// A site starts recalls of what a recall misses there, and captures what tells it where that lies.
     Gaps { site: &'a str, recall: &'a str },
     /// All sites, or one, close their packed gaps.
     Packs { site: Option<&'a str> },

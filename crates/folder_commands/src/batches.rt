@@ -132,8 +132,8 @@ pub fn take_inputs<K: SiteKeeper, F: Files<K>, W, S: InputSink<W>>(
     })
 }
 
-/// Takes inputs that are given at a site of a folder, as [`take_inputs`] takes those of words, to be counted as those of
-/// a task.
+/// Takes inputs that are given at a site of a folder, as [`take_inputs`] takes those of words, to be counted as those
+/// of a task.
 ///
 /// # Errors
 /// Those of [`take_inputs`], but for `Read` of a file of inputs.

@@ -18,7 +18,7 @@ complete -c recall -n '__fish_seen_subcommand_from start' -l wait -x -d 'Wait so
 complete -c recall -n '__fish_seen_subcommand_from start' -l from -d 'Each word is a file, of which each line is an EPC'
 complete -c recall -n '__fish_seen_subcommand_from start' -l dry-run -d 'Tell what the start would do, and do nothing'
 complete -c recall -n '__fish_seen_subcommand_from start' -l contents -d 'Start a recall of each item that lies in it, too'
-complete -c recall -n '__fish_seen_subcommand_from start' -l gaps -d 'Close the site\'s gaps, and recall there what the recall misses that is given as <epc>'
+complete -c recall -n '__fish_seen_subcommand_from start' -l gaps -d 'Recall at the site what the recall misses that is given as <epc>'
 complete -c recall -n '__fish_seen_subcommand_from start' -l key -d 'The item is given as this program prints it'
 complete -c recall -n '__fish_seen_subcommand_from start' -l scan -d 'The item is given as a scanner gives it, in GS1 element strings'
 complete -c recall -n '__fish_seen_subcommand_from start' -l max-bytes -x -d 'Refuse a document, or a line, that is longer, 1 to 1073741824 [default: 67108864]'
