@@ -6,7 +6,8 @@ use Rattle.epc_core.specs.Serials.{IsSerial}
 use Rattle.epc_core.specs.Spellings.{IsKey, Spells}
 use Rattle.item_spellings.specs.Elements.{Element, ai_length, fixed_length}
 use Rattle.item_spellings.specs.Keys.{key_reading}
-use Rattle.item_spellings.specs.Lots.{lot_text}
+use Rattle.item_spellings.specs.LotParts.{IsLotOf, lot_number, lot_parts_of}
+use Rattle.item_spellings.specs.Lots.{escape, lot_text}
 use Rattle.item_spellings.specs.Reading.{elements_of}
 use Rattle.item_spellings.specs.Scans.{item_of, scan_reading}
 use Rattle.item_spellings.specs.Writing.{IsWriting}
@@ -77,6 +78,15 @@ ScansSpellItems = (text key : List ℕ) → (scan_reading text ≡ Ok key) ↔ (
 -- the item that a lot names is the one that its text spells
 abbrev pub LotsAreSpelled : Type 0
 LotsAreSpelled = (gtin lot : List ℕ) → IsChecked 14 gtin → IsSerial lot → Spells (lot_text gtin lot) (uri_key (lot_text gtin lot))
+
+-- the parts of a key are the GTIN and the number of the lot that it is the key of, and there are none of any other
+abbrev pub LotsHaveParts : Type 0
+LotsHaveParts = (key gtin number : List ℕ) → (lot_parts_of key ≡ Some (gtin, number)) ↔ IsLotOf key gtin number
+
+-- a lot's text has the GTIN and a number that tells the lot's own
+abbrev pub LotNumbersAreDecoded : Type 0
+LotNumbersAreDecoded =
+    (gtin lot : List ℕ) → IsChecked 14 gtin → IsSerial lot → (lot_parts_of (uri_key (lot_text gtin lot)) ≡ Some (gtin, escape lot)) × (lot_number (escape lot) ≡ lot)
 
 -- a text is refused for want of elements where it is written of none
 abbrev pub OtherTextsAreRefused : Type 0

@@ -2,6 +2,7 @@ pub mod Elements
 pub mod Writing
 pub mod Reading
 pub mod Lots
+pub mod LotParts
 pub mod Scans
 pub mod Keys
 pub mod Names

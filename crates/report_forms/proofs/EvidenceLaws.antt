@@ -1,5 +1,5 @@
 -- the events in rows are those of their steps, and stand behind what is there without them
-use Rattle.std.proofs.Common.{◌≡◌, ◌∙◌, ◌+◌, ◌-◌, ℕ, suc, true, false, List, [], ◌∷◌, ◌++◌, Option, Some, None, ap, ap₂, arith, drop, length, map, refl, slice_get, subst, sym, take}
+use Rattle.std.proofs.Common.{◌≡◌, ◌∙◌, ◌+◌, ◌-◌, ℕ, suc, true, false, List, [], ◌∷◌, ◌++◌, Option, Some, None, ap, ap₂, arith, drop, length, map, refl, slice_get, subst, sym}
 use Rattle.std.specs.List.{AllZip}
 use Rattle.std.specs.Option.{unwrap_or}
 use Rattle.std.proofs.Math.Seq.{drop-append_seam}
@@ -14,7 +14,7 @@ use Rattle.trace_core.specs.Trails.{before_end}
 use Rattle.trace_core.specs.declared.pairs.Pair.{Pair}
 use Rattle.report_forms.specs.Accounts.{held_way, outside_in, outside_parts, parts_of, steps_in}
 use Rattle.report_forms.specs.Csv.{Fields, columns_of, kind_of, origin_row, outside_row, part_row, recall_field}
-use Rattle.report_forms.specs.Laws.{FirstStepsAreInRows, IsOfStep, LastStepsAreInRows, TenFieldsStay}
+use Rattle.report_forms.specs.Laws.{FirstStepsAreInRows, IsOfStep, LastStepsAreInRows, OtherFieldsStay, other_fields}
 use Rattle.report_forms.specs.declared.accounts.Title.{Title}
 use Rattle.report_forms.specs.declared.accounts.Title.TheVariants as titles
 use Rattle.report_forms.specs.declared.accounts.Way.{Way}
@@ -83,30 +83,30 @@ first_steps sites after p q told = (refl, λ along. first_told sites after p q t
 -- ---- rows
 
 parts_stay : (sites : List Site) (recall kind : List ℕ) (pairs : List Pair) (ways : List Way) (events : List (List StepEvents))
-    → map (take 10) (map (part_row sites recall kind true) (parts_of pairs ways events)) ≡ map (part_row sites recall kind false) (parts_of pairs ways [])
+    → map other_fields (map (part_row sites recall kind true) (parts_of pairs ways events)) ≡ map (part_row sites recall kind false) (parts_of pairs ways [])
 parts_stay sites recall kind [] ways events = refl
 parts_stay sites recall kind (p ∷ pairs) ways events =
     ap (λ (rest : List Fields). part_row sites recall kind false (record { pair = p; way = unwrap_or (slice_get ways 0) Unknown; events = None }) ∷ rest)
     (parts_stay sites recall kind pairs (drop 1 ways) (drop 1 events))
 
 outside_stay : (sites : List Site) (recall : List ℕ) (outside : List OutsideShipment) (told : List OutsideEvent)
-    → map (take 10) (map (outside_row sites recall true) (outside_parts outside told)) ≡ map (outside_row sites recall false) (outside_parts outside [])
+    → map other_fields (map (outside_row sites recall true) (outside_parts outside told)) ≡ map (outside_row sites recall false) (outside_parts outside [])
 outside_stay sites recall [] told = refl
 outside_stay sites recall (x ∷ outside) told =
     ap (λ (rest : List Fields). outside_row sites recall false (record { shipment = x; event = None }) ∷ rest) (outside_stay sites recall outside (drop 1 told))
 
-origins_stay : (sites : List Site) (recall : List ℕ) (origins : List Pair) → map (take 10) (map (origin_row sites recall true) origins) ≡ map (origin_row sites recall false) origins
+origins_stay : (sites : List Site) (recall : List ℕ) (origins : List Pair) → map other_fields (map (origin_row sites recall true) origins) ≡ map (origin_row sites recall false) origins
 origins_stay sites recall [] = refl
 origins_stay sites recall (p ∷ origins) = ap (λ (rest : List Fields). origin_row sites recall false p ∷ rest) (origins_stay sites recall origins)
 
-columns_stay : (title : Title) → take 10 (columns_of title true) ≡ columns_of title false
+columns_stay : (title : Title) → other_fields (columns_of title true) ≡ columns_of title false
 columns_stay (titles.Recall r ended) = refl
 columns_stay titles.Forward = refl
 columns_stay titles.Back = refl
 
 -- those of the columns, of pairs, of shipments and of origins
 rows_stay : (sites : List Site) (title : Title) (pairs : List Pair) (ways : List Way) (events : List (List StepEvents)) (outside : List OutsideShipment) (told : List OutsideEvent) (origins : List Pair)
-    → map (take 10)
+    → map other_fields
     (columns_of title true
     ∷ map (part_row sites (recall_field sites title) (kind_of title) true) (parts_of pairs ways events)
     ++ (map (outside_row sites (recall_field sites title) true) (outside_parts outside told) ++ map (origin_row sites (recall_field sites title) true) origins))
@@ -119,12 +119,12 @@ rows_stay sites title pairs ways events outside told origins =
     let left = map (outside_row sites recall true) (outside_parts outside told) in
     let began = map (origin_row sites recall true) origins in
     ap₂ (λ (x : Fields) (xs : List Fields). x ∷ xs) (columns_stay title)
-    (map-append (take 10) parts (left ++ began)
+    (map-append other_fields parts (left ++ began)
     ∙ ap₂ (λ (xs ys : List Fields). xs ++ ys) (parts_stay sites recall (kind_of title) pairs ways events)
-    (map-append (take 10) left began ∙ ap₂ (λ (xs ys : List Fields). xs ++ ys) (outside_stay sites recall outside told) (origins_stay sites recall origins)))
+    (map-append other_fields left began ∙ ap₂ (λ (xs ys : List Fields). xs ++ ys) (outside_stay sites recall outside told) (origins_stay sites recall origins)))
 
-pub ten_stay : TenFieldsStay
-ten_stay = (
+pub others_stay : OtherFieldsStay
+others_stay = (
   λ sites r report events.
       rows_stay sites (titles.Recall r report.ended) report.pairs (map held_way report.trails) (steps_in (Some events)) report.outside (outside_in (Some events)) [],
   λ sites trace events. rows_stay sites titles.Forward trace.pairs (map From trace.trails) (steps_in (Some events)) trace.outside (outside_in (Some events)) [],

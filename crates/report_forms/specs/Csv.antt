@@ -1,10 +1,11 @@
 -- A report and a trace as rows of comma-separated fields, as RFC 4180 has them.
 use Rattle.std.specs.Prelude.{if◌then◌else◌, ℕ, Bool, false, ◌==◌, ◌&&◌, List, [], ◌∷◌, ◌++◌, Option, Some, None, codes, map}
 use Rattle.std.specs.List.{flat_map, list_any}
-use Rattle.std.specs.Option.{option_and_then, option_map_or, unwrap_or}
+use Rattle.std.specs.Option.{option_and_then, option_map_or, option_or, unwrap_or}
 use Rattle.csv.specs.Writing.{default_writer, field_text}
 use Rattle.epc_core.specs.Items.{behind, parted}
 use Rattle.event_json.specs.Sites.{Site}
+use Rattle.item_spellings.specs.LotParts.{lot_number, lot_parts_of}
 use Rattle.recall_text.specs.Words.{name_at, recall_text}
 use Rattle.trace_core.specs.declared.pairs.Pair.{Pair}
 use Rattle.report_forms.specs.Accounts.{Account, OutsidePart, Part, way_beside}
@@ -18,8 +19,9 @@ use Rattle.report_forms.specs.declared.accounts.Title.TheVariants as titles
 abbrev pub trade_numbers : List ℕ → Option (List ℕ × List ℕ)
 trade_numbers key = option_and_then (parted 32) (behind (codes "sgtin ") key)
 
+-- the GTIN of a trade item or of a lot
 abbrev pub gtin_of : List ℕ → List ℕ
-gtin_of key = option_map_or (λ numbers. numbers.0) (trade_numbers key) []
+gtin_of key = option_map_or (λ numbers. numbers.0) (option_or (trade_numbers key) (lot_parts_of key)) []
 
 abbrev pub serial_of : List ℕ → List ℕ
 serial_of key = option_map_or (λ numbers. numbers.1) (trade_numbers key) []
@@ -27,6 +29,10 @@ serial_of key = option_map_or (λ numbers. numbers.1) (trade_numbers key) []
 -- the SSCC of a logistic unit
 abbrev pub sscc_of : List ℕ → List ℕ
 sscc_of key = unwrap_or (behind (codes "sscc ") key) []
+
+-- the number of a lot
+abbrev pub lot_of : List ℕ → List ℕ
+lot_of key = option_map_or (λ parts. lot_number parts.1) (lot_parts_of key) []
 
 -- ---- rows
 
@@ -38,7 +44,7 @@ Fields = List (List ℕ)
 abbrev pub columns : List ℕ → List ℕ → Bool → Fields
 columns beside_site beside_item told =
     codes "recall" ∷ codes "site" ∷ codes "item" ∷ codes "gtin" ∷ codes "serial" ∷ codes "sscc" ∷ beside_site ∷ beside_item ∷ codes "kind" ∷ codes "destination"
-    ∷ if_told told (codes "event_id" ∷ codes "event_time" ∷ codes "carrier" ∷ [])
+    ∷ (if_told told (codes "event_id" ∷ codes "event_time" ∷ codes "carrier" ∷ []) ++ codes "lot" ∷ [])
 
 abbrev pub name_beside : List Site → Option Pair → List ℕ
 name_beside sites None = []
@@ -48,10 +54,11 @@ abbrev pub item_beside : Option Pair → List ℕ
 item_beside None = []
 item_beside (Some p) = p.item
 
--- an item at a site, the pair beside it, where it went, and what the event behind that is
+-- an item at a site, the pair beside it, where it went, what the event behind that is, and the number of a lot
 abbrev pub row_of : List Site → List ℕ → ℕ → List ℕ → Option Pair → List ℕ → List ℕ → Fields → Fields
 row_of sites recall site item beside kind destination evidence =
-    recall ∷ name_at sites site ∷ item ∷ gtin_of item ∷ serial_of item ∷ sscc_of item ∷ name_beside sites beside ∷ item_beside beside ∷ kind ∷ destination ∷ evidence
+    recall ∷ name_at sites site ∷ item ∷ gtin_of item ∷ serial_of item ∷ sscc_of item ∷ name_beside sites beside ∷ item_beside beside ∷ kind ∷ destination
+    ∷ (evidence ++ lot_of item ∷ [])
 
 -- a pair, the pair beside it on its trail, and, where the events are told, that of the step between them
 abbrev pub part_row : List Site → List ℕ → List ℕ → Bool → Part → Fields

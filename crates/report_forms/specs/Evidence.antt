@@ -11,7 +11,7 @@ use Rattle.report_forms.specs.declared.accounts.Way.TheVariants.{Unknown, From, 
 
 -- the first event of a step: of a transformation the one that takes the item in
 abbrev pub first_event : StepEvents → CapturedEvent
-first_event (Shipped event) = event
+first_event (Shipped event packings) = event
 first_event (Made taken given) = taken
 
 -- of the steps that are told the one between a pair and the pair beside it: the last one of a trail to the pair, the first one of a trail from it

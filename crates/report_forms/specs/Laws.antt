@@ -1,10 +1,13 @@
 -- What rows and pictures are, in the words of those that read them.
-use Rattle.std.specs.Prelude.{◌≡◌, ◌==◌, ◌⊎◌, ℕ, Bool, true, false, List, [], ◌∷◌, ◌++◌, Option, Some, None, codes, if◌then◌else◌, map, option_map, take}
+use Rattle.std.specs.Prelude.{◌≡◌, ◌==◌, ◌⊎◌, ℕ, Bool, true, false, List, [], ◌∷◌, ◌++◌, Option, Some, None, codes, drop, if◌then◌else◌, map, option_map, take}
 use Rattle.std.specs.List.{AllZip}
 use Rattle.epc_core.specs.Items.{sgtin_key, sscc_key, uri_key, with_first}
 use Rattle.epc_core.specs.Numbers.{IsChecked}
+use Rattle.epc_core.specs.Serials.{IsSerial}
 use Rattle.event_json.specs.Sites.{Site}
 use Rattle.frame_core.specs.Numbers.{Recall}
+use Rattle.item_spellings.specs.LotParts.{IsLot, IsLotOf, lot_number}
+use Rattle.item_spellings.specs.Lots.{lot_text}
 use Rattle.report_core.specs.TrailEvents.{TellsStep, pairs_shown, steps_of}
 use Rattle.report_core.specs.declared.reports.RecallReport.{RecallReport}
 use Rattle.report_core.specs.declared.traces.BackTrace.{BackTrace}
@@ -16,7 +19,7 @@ use Rattle.report_core.specs.declared.with_events.ShownEvents.{ShownEvents}
 use Rattle.trace_core.specs.Sites.{SiteEvents}
 use Rattle.trace_core.specs.declared.pairs.Pair.{Pair}
 use Rattle.report_forms.specs.Accounts.{back_account, report_account, trace_account, way_beside}
-use Rattle.report_forms.specs.Csv.{account_rows, gtin_of, guarded, serial_of, sscc_of}
+use Rattle.report_forms.specs.Csv.{Fields, account_rows, gtin_of, guarded, lot_of, serial_of, sscc_of}
 use Rattle.report_forms.specs.Dot.{dot_text, with_entities}
 use Rattle.report_forms.specs.Evidence.{step_beside}
 use Rattle.report_forms.specs.declared.accounts.Way.TheVariants.{From, To}
@@ -24,17 +27,21 @@ use Rattle.report_forms.specs.declared.accounts.Way.TheVariants.{From, To}
 -- ---- rows
 
 -- its columns of numbers
-pub record HasNumbers (key gtin serial sscc : List ℕ) : Type 0 where
+pub record HasNumbers (key gtin serial sscc lot : List ℕ) : Type 0 where
   pub gtin_is : gtin_of key ≡ gtin
   pub serial_is : serial_of key ≡ serial
   pub sscc_is : sscc_of key ≡ sscc
+  pub lot_is : lot_of key ≡ lot
 
--- A trade item has its GTIN and its serial number, a logistic unit its SSCC, and any other item none of them.
+-- A trade item has its GTIN and its serial number, a logistic unit its SSCC, a lot its GTIN and its number, and any other item none of them.
+-- The number of a lot is the one of which its text was made.
 abbrev pub ItemsHaveNumbers : Type 0
 ItemsHaveNumbers =
-    ((gtin serial : List ℕ) → IsChecked 14 gtin → HasNumbers (sgtin_key gtin serial) gtin serial [])
-    × ((digits : List ℕ) → HasNumbers (sscc_key digits) [] [] digits)
-    × ((text : List ℕ) → HasNumbers (uri_key text) [] [] [])
+    ((gtin serial : List ℕ) → IsChecked 14 gtin → HasNumbers (sgtin_key gtin serial) gtin serial [] [])
+    × ((digits : List ℕ) → HasNumbers (sscc_key digits) [] [] digits [])
+    × ((key gtin number : List ℕ) → IsLotOf key gtin number → HasNumbers key gtin [] [] (lot_number number))
+    × ((gtin lot : List ℕ) → IsChecked 14 gtin → IsSerial lot → HasNumbers (uri_key (lot_text gtin lot)) gtin [] [] lot)
+    × ((text : List ℕ) → (IsLot (uri_key text) → ⊥) → HasNumbers (uri_key text) [] [] [] [])
 
 -- it begins with `=`, `+`, `-`, `@`, a tab or a CR
 abbrev pub BeginsFormula : List ℕ → Type 0
@@ -75,14 +82,18 @@ FirstStepsAreInRows =
     × (AreTold sites Each (p ∷ q ∷ after) told → IsOfStep sites p q (step_beside (To (p ∷ q ∷ after)) told))
     × (AreTold sites First (p ∷ q ∷ after) told → IsOfStep sites p q (step_beside (To (p ∷ q ∷ after)) told))
 
--- Where the events are told, a row's first ten fields are those that it has without.
-abbrev pub TenFieldsStay : Type 0
-TenFieldsStay =
+-- a row but for the eleventh to the thirteenth field
+abbrev pub other_fields : Fields → Fields
+other_fields row = take 10 row ++ drop 13 row
+
+-- Where the events are told, a row has three fields behind the tenth that tell them, and its other fields are those that it has without.
+abbrev pub OtherFieldsStay : Type 0
+OtherFieldsStay =
     ((sites : List Site) (r : Recall) (report : RecallReport) (events : ShownEvents)
-    → map (take 10) (account_rows sites (report_account r report (Some events))) ≡ account_rows sites (report_account r report None))
-    × ((sites : List Site) (trace : Trace) (events : ShownEvents) → map (take 10) (account_rows sites (trace_account trace (Some events))) ≡ account_rows sites (trace_account trace None))
+    → map other_fields (account_rows sites (report_account r report (Some events))) ≡ account_rows sites (report_account r report None))
+    × ((sites : List Site) (trace : Trace) (events : ShownEvents) → map other_fields (account_rows sites (trace_account trace (Some events))) ≡ account_rows sites (trace_account trace None))
     × ((sites : List Site) (trace : BackTrace) (first : List StepEvents) (events : List (List StepEvents))
-    → map (take 10) (account_rows sites (back_account trace (first ∷ events))) ≡ account_rows sites (back_account trace []))
+    → map other_fields (account_rows sites (back_account trace (first ∷ events))) ≡ account_rows sites (back_account trace []))
 
 -- ---- pictures
 

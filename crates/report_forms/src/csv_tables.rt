@@ -1,17 +1,15 @@
 //! A report and a trace as rows of comma-separated fields, for a spreadsheet.
 
-ghost use Rattle.std.specs.Prelude.{◌≡◌, ◌++◌, ◌<◌, [], ◌∷◌, Bool, IfOk, OnOk, codes, length, map, option_map, string_bytes};
-ghost use Rattle.std.specs.Option.{option_map_or};
-ghost use Rattle.epc_core.specs.Items.{parted};
-ghost use Rattle.std.specs.List.{flat_map, list_any};
+ghost use Rattle.std.specs.Prelude.{◌≡◌, ◌++◌, [], ◌∷◌, Bool, IfOk, OnOk, codes, map, option_map, string_bytes};
+ghost use Rattle.std.specs.List.{flat_map};
 ghost use Rattle.csv.specs.Reading.{default_config, records};
-ghost use Rattle.csv.specs.Writing.{default_writer, escaped, needs_byte, needs_quotes, quoted};
 ghost use Rattle.report_forms.specs.Accounts.{outside_part_of, part_of};
-ghost use Rattle.report_forms.specs.Csv.{account_rows, columns, columns_of, cell, cell_line, cell_lines, csv_field, gtin_of, is_formula, item_beside, kind_of, name_beside, origin_row, outside_row, part_row, recall_field, row_of, serial_of, sscc_of, table_rows};
+ghost use Rattle.report_forms.specs.Csv.{account_rows, columns, columns_of, cell_line, cell_lines, item_beside, kind_of, name_beside, origin_row, outside_row, part_row, recall_field, row_of, serial_of, sscc_of, table_rows};
 
 use crate::accounts::{Account, OutsidePart, Part, Title};
+use crate::csv_cells::push_line;
 use crate::evidence::{carrier_of, event_beside, event_outside, id_of, if_told, time_of};
-use crate::replaced::push_replaced;
+use crate::item_numbers::{gtin_of, lot_of, serial_of, sscc_of};
 use epc_core::Epc;
 use event_json::{SiteNo, Sites};
 use recall_text::telling::{name_of, recall_text};
@@ -19,8 +17,9 @@ use std::alloc::{AllocError, Global};
 use trace_core::Pair;
 
 /// A report or a trace as rows, in which a reader of RFC 4180 finds just these: a first one of the columns' names, one
-/// for each pair, and one for each shipment out of the traced sites, or for each pair that no pair is related to. Where
-/// the events are told, the last three fields of a row tell that of its step or its shipment.
+/// for each pair, and one for each shipment out of the traced sites, or for each pair that no pair is related to. The
+/// last field is the number of a lot, empty of any other item. Where the events are told, the three before it tell that
+/// of the row's step or shipment.
 ///
 /// With `guard` a field that a spreadsheet might take for a formula has an apostrophe before it, and any other is as it
 /// was.
@@ -77,9 +76,9 @@ fn columns_from(told: bool) -> &'static str
         ≡ cell_line guard (columns (codes "from_site") (codes "from_item") told) }
 {
     if told {
-        "recall,site,item,gtin,serial,sscc,from_site,from_item,kind,destination,event_id,event_time,carrier\r\n"
+        "recall,site,item,gtin,serial,sscc,from_site,from_item,kind,destination,event_id,event_time,carrier,lot\r\n"
     } else {
-        "recall,site,item,gtin,serial,sscc,from_site,from_item,kind,destination\r\n"
+        "recall,site,item,gtin,serial,sscc,from_site,from_item,kind,destination,lot\r\n"
     }
 }
 
@@ -90,9 +89,9 @@ fn columns_to(told: bool) -> &'static str
         ≡ cell_line guard (columns (codes "to_site") (codes "to_item") told) }
 {
     if told {
-        "recall,site,item,gtin,serial,sscc,to_site,to_item,kind,destination,event_id,event_time,carrier\r\n"
+        "recall,site,item,gtin,serial,sscc,to_site,to_item,kind,destination,event_id,event_time,carrier,lot\r\n"
     } else {
-        "recall,site,item,gtin,serial,sscc,to_site,to_item,kind,destination\r\n"
+        "recall,site,item,gtin,serial,sscc,to_site,to_item,kind,destination,lot\r\n"
     }
 }
 
@@ -298,107 +297,55 @@ fn push_row(
 {
     let key = item.key(alloc)?;
     let other = item_beside(alloc, beside)?;
+    let lot = lot_of(alloc, item)?;
     push_fields(
         text,
         recall,
         name_of(sites, site),
         key.as_str(),
+        gtin_of(item, key.as_str()),
         name_beside(sites, beside),
         other.as_str(),
         kind,
         destination,
         evidence,
+        lot.as_str(),
         guard,
     )
 }
 
-/// Adds the row of these fields, and of the item's numbers behind its key.
+/// Adds the row of these fields, and of the item's other numbers behind its GTIN.
 fn push_fields<'a>(
     text: &mut String,
     recall: &str,
     site: &'a str,
     key: &'a str,
+    gtin: &'a str,
     other_site: &'a str,
     other_key: &'a str,
     kind: &'a str,
     destination: &'a str,
     evidence: &[&str],
+    lot: &str,
     guard: bool,
 ) -> Result<(), AllocError>
     ensures { OnOk result (string_bytes text.new ≡ string_bytes text.old ++ cell_line guard
-        (recall.now ∷ site.now ∷ key.now ∷ gtin_of key.now ∷ serial_of key.now ∷ sscc_of key.now
+        (recall.now ∷ site.now ∷ key.now ∷ gtin.now ∷ serial_of key.now ∷ sscc_of key.now
         ∷ other_site.now ∷ other_key.now ∷ kind.now ∷ destination.now
-        ∷ map (λ f. f.now) evidence.now)) }
+        ∷ (map (λ f. f.now) evidence.now ++ lot.now ∷ []))) }
 {
-    let (gtin, serial) = trade_numbers(key);
     let rest = [
         site,
         key,
         gtin,
-        serial,
+        serial_of(key),
         sscc_of(key),
         other_site,
         other_key,
         kind,
         destination,
     ];
-    push_line(text, recall, &rest, evidence, guard)
-}
-
-/// Adds a line of a field and others.
-#[tactic(auto, unfolding(crate::specs::Csv::cell_line, crate::specs::Csv::csv_line))]
-fn push_line(
-    text: &mut String,
-    first: &str,
-    rest: &[&str],
-    evidence: &[&str],
-    guard: bool,
-) -> Result<(), AllocError>
-    ensures { OnOk result (string_bytes text.new ≡ string_bytes text.old ++ cell_line guard
-        (first.now ∷ (map (λ f. f.now) rest.now ++ map (λ f. f.now) evidence.now))) }
-{
-    push_field(text, first, guard)?;
-    for field in rest {
-        text.push(',')?;
-        push_field(text, field, guard)?;
-    }
-    for field in evidence {
-        text.push(',')?;
-        push_field(text, field, guard)?;
-    }
-    text.push_str("\r\n")
-}
-
-/// The GTIN and the serial number of a trade item, by its key; empty of any other item.
-fn trade_numbers(key: &str) -> (&str, &str)
-    ensures gtin { result.0.now ≡ gtin_of key.now }
-    ensures serial { result.1.now ≡ serial_of key.now }
-{
-    match key.strip_prefix("sgtin ") {
-        None => ("", ""),
-        Some(numbers) => parts_of(numbers),
-    }
-}
-
-/// What is before the first space of a text, and what is behind it; empty where there is none.
-fn parts_of(numbers: &str) -> (&str, &str)
-    ensures first { result.0.now ≡ option_map_or (λ parts. parts.0) (parted 32 numbers.now) [] }
-    ensures rest { result.1.now ≡ option_map_or (λ parts. parts.1) (parted 32 numbers.now) [] }
-{
-    match numbers.split_once(' ') {
-        None => ("", ""),
-        Some((first, rest)) => (first, rest),
-    }
-}
-
-/// The SSCC of a logistic unit, by its key; empty of any other item.
-fn sscc_of(key: &str) -> &str
-    ensures { result.now ≡ sscc_of key.now }
-{
-    match key.strip_prefix("sscc ") {
-        None => "",
-        Some(digits) => digits,
-    }
+    push_line(text, recall, &rest, evidence, lot, guard)
 }
 
 /// The name of a pair's site, or nothing.
@@ -420,87 +367,4 @@ fn item_beside(alloc: Global, beside: Option<&Pair>) -> Result<String, AllocErro
         None => Ok(String::new(alloc)),
         Some(pair) => pair.item.key(alloc),
     }
-}
-
-/// Adds a field; with `guard` behind an apostrophe, where a spreadsheet might take it for a formula.
-fn push_field(text: &mut String, field: &str, guard: bool) -> Result<(), AllocError>
-    ensures { OnOk result (string_bytes text.new
-        ≡ string_bytes text.old ++ csv_field (cell guard field.now)) }
-{
-    if is_formula(field) && guard {
-        push_guarded(text, field)
-    } else {
-        push_plain(text, field)
-    }
-}
-
-/// Adds a field behind an apostrophe, in quotes where it has a quote, a comma or a line's end.
-#[tactic(auto, unfolding(crate::specs::Csv::csv_field))]
-fn push_guarded(text: &mut String, field: &str) -> Result<(), AllocError>
-    ensures { OnOk result (string_bytes text.new
-        ≡ string_bytes text.old ++ csv_field (39 ∷ field.now)) }
-{
-    if needs_quotes(field) {
-        text.push_str("\"'")?;
-        push_doubled(text, field)?;
-        text.push('"')
-    } else {
-        text.push('\'')?;
-        text.push_str(field)
-    }
-}
-
-/// Adds a field, in quotes where it has a quote, a comma or a line's end.
-#[tactic(auto, unfolding(crate::specs::Csv::csv_field))]
-fn push_plain(text: &mut String, field: &str) -> Result<(), AllocError>
-    ensures { OnOk result (string_bytes text.new ≡ string_bytes text.old ++ csv_field field.now) }
-{
-    if needs_quotes(field) {
-        push_quoted(text, field)
-    } else {
-        text.push_str(field)
-    }
-}
-
-/// Whether a spreadsheet might take a field for a formula.
-fn is_formula(field: &str) -> bool
-    ensures { result ≡ is_formula field.now }
-{
-    match field.as_bytes().first() {
-        Some(byte) => matches!(*byte, b'=' | b'+' | b'-' | b'@' | b'\t' | b'\r'),
-        None => false,
-    }
-}
-
-/// Adds a field in quotes, with each quote in it doubled.
-fn push_quoted(text: &mut String, field: &str) -> Result<(), AllocError>
-    ensures { OnOk result (string_bytes text.new
-        ≡ string_bytes text.old ++ quoted default_writer field.now) }
-{
-    text.push('"')?;
-    push_doubled(text, field)?;
-    text.push('"')
-}
-
-/// Adds a text with each quote doubled.
-#[tactic(auto, using(crate::proofs::Replacing::doubled))]
-fn push_doubled(text: &mut String, field: &str) -> Result<(), AllocError>
-    ensures { OnOk result (string_bytes text.new
-        ≡ string_bytes text.old ++ escaped default_writer field.now) }
-{
-    push_replaced(text, field, '"', "\"\"")
-}
-
-/// Whether a field has to stand in quotes.
-fn needs_quotes(field: &str) -> bool
-    ensures { result ≡ needs_quotes default_writer field.now }
-{
-    field.as_bytes().iter().any(|byte| needs_byte(*byte))
-}
-
-/// Whether a byte of a field calls for quotes.
-fn needs_byte(byte: u8) -> bool
-    ensures { result ≡ needs_byte default_writer byte }
-{
-    byte == b',' || byte == b'"' || byte == b'\r' || byte == b'\n'
 }

@@ -41,7 +41,7 @@ fn first_event(step: &StepEvents) -> &CapturedEvent
     ensures { result.now ≡ first_event step.now }
 {
     match step {
-        StepEvents::Shipped(event) => event,
+        StepEvents::Shipped { event, packings: _ } => event,
         StepEvents::Made {
             taken_in,
             given_out: _,

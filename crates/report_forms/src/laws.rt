@@ -1,8 +1,9 @@
 //! Laws of rows and pictures, each named by a function with an empty body whose contract is the law.
 
-ghost use Rattle.report_forms.specs.Laws.{FirstStepsAreInRows, FormulasAreGuarded, ItemsHaveNumbers, LastStepsAreInRows, TenFieldsStay, TextsReadBack};
+ghost use Rattle.report_forms.specs.Laws.{FirstStepsAreInRows, FormulasAreGuarded, ItemsHaveNumbers, LastStepsAreInRows, OtherFieldsStay, TextsReadBack};
 
-/// A trade item has its GTIN and its serial number, a logistic unit its SSCC, and any other item none of them.
+/// A trade item has its GTIN and its serial number, a logistic unit its SSCC, a lot its GTIN and its number, and any other
+/// item none of them. The number of a lot is the one of which its text was made.
 pub fn items_have_numbers()
     ensures { ItemsHaveNumbers }
 {}
@@ -22,9 +23,10 @@ pub fn first_steps_are_in_rows()
     ensures { FirstStepsAreInRows }
 {}
 
-/// Where the events are told, the first ten fields of a row are those that it has without.
-pub fn ten_fields_stay()
-    ensures { TenFieldsStay }
+/// Where the events are told, a row has three fields behind the tenth that tell them, and its other fields are those that
+/// it has without.
+pub fn other_fields_stay()
+    ensures { OtherFieldsStay }
 {}
 
 /// No quote inside a text of a picture ends it.

@@ -3,9 +3,11 @@
 #![tactic(auto)]
 
 mod accounts;
+mod csv_cells;
 mod csv_tables;
 mod dot_graphs;
 mod evidence;
+mod item_numbers;
 pub mod laws;
 mod pictures;
 mod replaced;

@@ -3,7 +3,7 @@ use Rattle.std.proofs.lemmas.Result.{on_ok_weaker}
 use Rattle.csv.specs.Writing.{default_writer, escaped}
 use Rattle.report_forms.proofs.Guarding.{quoted_behind}
 use Rattle.report_forms.proofs.Replacing.{appended}
-use Rattle.report_forms.proofs.csv_tables.push_guarded.Goals as goal
+use Rattle.report_forms.proofs.csv_cells.push_guarded.Goals as goal
 
 pub returns-in_ok-push_doubled : goal.returns-in_ok-push_doubled
 unfolding lib.Utf8.encode

@@ -1,0 +1,6 @@
+use Rattle.std.proofs.Common.{codes}
+use Rattle.item_spellings.proofs.LotParts.{strips}
+use Rattle.item_spellings.proofs.lot_parts.behind_key.Goals as goal
+
+pub returns : goal.returns
+returns c = strips (codes "10/") _ c.strip_prefix.result c.strip_prefix.ensures.cases
