@@ -1,11 +1,13 @@
 pub mod Additions
 pub mod BatchSteps
 pub mod EdgeLists
+pub mod ElsewhereSteps
 pub mod EventsInTurn
 pub mod GapSteps
 pub mod InsideSteps
 pub mod KnownSteps
 pub mod LeastSources
+pub mod LineEventSteps
 pub mod LineSteps
 pub mod MissedReach
 pub mod MissedStepLists
@@ -19,7 +21,9 @@ pub mod PlaceLists
 pub mod ShippedItems
 pub mod SourceLists
 pub mod TellingSteps
+pub mod TouchedSteps
 pub mod Turns
+pub mod UnlinkedSteps
 pub mod UnseenSteps
 pub mod UntoldSteps
 pub mod UsedSteps

@@ -54,7 +54,7 @@ all_shipped events places items notes i = (
 )
 
 -- a shipment of the item is one of the shipments there that has the item
-ships_split : (item : List ℕ) (to : Place) (b : Body) → ShipsTo item to b ↔ (Contains (shipped_in b) item × GoesTo to b)
+pub ships_split : (item : List ℕ) (to : Place) (b : Body) → ShipsTo item to b ↔ (Contains (shipped_in b) item × GoesTo to b)
 ships_split item (inl site) (Note items) = (λ h. absurd h, λ h. absurd h.1)
 ships_split item (inl site) (Ship items sites outside) = (λ h. h, λ h. h)
 ships_split item (inl site) (Make id ins outs) = (λ h. absurd h, λ h. absurd h.1)

@@ -1,10 +1,12 @@
 pub mod Adding
 pub mod Batches
+pub mod Elsewhere
 pub mod GapItems
 pub mod GapLines
 pub mod GapPacks
 pub mod Inside
 pub mod Laws
+pub mod LineEvents
 pub mod Lines
 pub mod Missed
 pub mod MissedSteps
@@ -14,6 +16,8 @@ pub mod Packers
 pub mod Searches
 pub mod Shipments
 pub mod Sources
+pub mod Touched
+pub mod Unlinked
 pub mod Unseen
 pub mod Untold
 pub mod Used

@@ -7,11 +7,14 @@
 #![tactic(auto)]
 
 mod batches;
+mod elsewhere;
+mod event_places;
 mod gap_items;
 mod inputs;
 mod inside;
 mod item_lists;
 pub mod laws;
+mod line_events;
 mod lines;
 mod missed;
 mod missed_reach;
@@ -26,6 +29,8 @@ mod searches;
 mod shipments;
 mod site_gaps;
 mod sources;
+mod touched;
+mod unlinked;
 mod unseen;
 mod untold;
 mod used;
@@ -34,6 +39,7 @@ mod wide_reach;
 
 pub use gap_items::{GapItem, items_in_gaps};
 pub use inside::items_inside;
+pub use line_events::{GapEvents, gap_events};
 pub use lines::{GapLine, Gaps, packed_gaps, used_gaps};
 pub use missed::missed_pairs;
 pub use missed_reach::missed_among;
@@ -42,5 +48,7 @@ pub use outside::Destination;
 pub use packs::{GapPack, packs_of_items, packs_to_capture};
 pub use searches::known_packings;
 pub use sources::{Source, Sources, sources_of};
+pub use touched::gap_lines_with;
+pub use unlinked::unlinked_containers;
 pub use unseen::{UnseenItem, unseen_items};
 pub use untold::{Reached, UntoldShipment, untold_shipments};

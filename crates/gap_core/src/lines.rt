@@ -67,7 +67,7 @@ pub fn used_gaps(alloc: Global, sites: &[&Captured]) -> Result<Vec<GapLine>, All
 }
 
 /// The lines of items in order.
-fn lines_of(alloc: Global, items: &[GapItem]) -> Result<Vec<GapLine>, AllocError>
+pub fn lines_of(alloc: Global, items: &[GapItem]) -> Result<Vec<GapLine>, AllocError>
     requires { IsStrictlySortedBy gap_item_cmp items.now }
     ensures lines { IfOk result (λ lines. AreLinesOf (Contains items.now) lines.items) }
     ensures items { IfOk result (λ lines. length items.now ≡ items_in lines.items) }

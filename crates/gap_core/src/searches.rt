@@ -112,7 +112,7 @@ fn note_filled(
 }
 
 /// The container that an event fills.
-fn filled(body: &Body) -> Option<&Epc>
+pub fn filled(body: &Body) -> Option<&Epc>
     ensures { option_map (λ i. i.now) result ≡ filled body.now }
 {
     match body {

@@ -1,0 +1,10 @@
+use Rattle.std.proofs.Common.{[]}
+use Rattle.trace_core.specs.Chains.{sites_at}
+use Rattle.gap_core.specs.Adding.{AddsToList}
+use Rattle.gap_core.specs.Touched.{IsTouchedAt}
+use Rattle.gap_core.proofs.Additions.{Before}
+use Rattle.gap_core.proofs.touched.touched_items.Given as goal
+
+-- those of the sites so far
+abbrev pub invariant-loop-at : goal.invariant-loop-at
+invariant-loop-at l = AddsToList [] l.touched.items (Before l.at (IsTouchedAt (sites_at l.sites) l.missed l.gaps.items))
