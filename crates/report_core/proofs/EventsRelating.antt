@@ -7,9 +7,8 @@ use Rattle.std.specs.Ordering.{nat_cmp}
 use Rattle.std.proofs.lemmas.Option.{slice_get-get_or, slice_get_within, get_or_from_slice_get}
 use Rattle.event_json.specs.Events.{Content}
 use Rattle.event_json.specs.declared.bodies.Body.{Body}
-use Rattle.event_json.specs.declared.bodies.Body.TheVariants.{Note, Ship, Make, Pack}
 use Rattle.trace_core.specs.Groups.{IsPartOf, first_of}
-use Rattle.trace_core.specs.Pairs.{GivesOut, IsCarriedWith, IsMadeOf, IsSentTo, Ships, TakesIn, make_id}
+use Rattle.trace_core.specs.Pairs.{GivesOut, IsCarriedWith, IsMadeOf, IsSentTo, TakesIn, make_id}
 use Rattle.trace_core.specs.Searches.{IsFound}
 use Rattle.trace_core.specs.Sites.{SiteEvents}
 use Rattle.trace_core.specs.declared.pairs.Pair.{Pair}
@@ -17,8 +16,8 @@ use Rattle.trace_core.proofs.LookSteps.{first_alone, first_stands, one_first}
 use Rattle.trace_core.proofs.NumberLists.{some_is, none_is}
 use Rattle.trace_core.proofs.PairTestsDecide.{same_id_decides}
 use Rattle.site_core.specs.ItemSets.{item_cmp}
-use Rattle.report_core.specs.TrailEvents.{AnswersStep, AreOfOneMake, GivesOutWith, IsFirstOrNone, IsFirstShipment, ShipsAt, StandsAt, TakesInAt}
-use Rattle.report_core.specs.FirstPlaces.{AnswersMake, AnswersShipment, AreShipments, Goes, IsContainerAt, IsGroupAt, IsOfOne, IsOneOf, ShipsOff, TellsEvent}
+use Rattle.report_core.specs.TrailEvents.{AnswersStep, AreOfOneMake, GivesOutWith, IsFirstOrNone, IsFirstShipment, StandsAt, TakesInAt}
+use Rattle.report_core.specs.FirstPlaces.{AnswersMake, AnswersShipment, IsContainerAt, IsGroupAt, IsOfOne, IsOneOf, TellsEvent}
 use Rattle.report_core.specs.Sources.{Among, AreItemPlaces, AreOwnPlaces, ArePlaces, ByOne, Index, IsNotedAt, ShipsItself, or_no_places}
 use Rattle.report_core.specs.declared.trail_events.CapturedEvent.{CapturedEvent}
 use Rattle.report_core.specs.declared.trail_events.StepEvents.{StepEvents}
@@ -49,16 +48,6 @@ joined_group events n m e f stands stands' one = ⊎_elim
     let other' : make_id f.body ≡ Some id = ap (λ (c : Content). make_id c.body) (some_is f h (sym stands' ∙ there')) ∙ other in
     one_first events m n f e stands ((same_id_decides (make_id f.body) (make_id e.body)).1 (id, other', own')))
     one
-
--- a shipment that goes to the site, and ships the item off
-goes_with : (events : List Content) (item : List ℕ) (site : ℕ) (b : Body) → (Goes site b × ShipsOff events item b) ↔ ((carrier : List ℕ) × Ships carrier site b × IsCarriedWith events carrier item)
-goes_with events item site (Note items) = (λ h. absurd h.0, λ (carrier, ships, carried). absurd ships)
-goes_with events item site (Make id ins outs) = (λ h. absurd h.0, λ (carrier, ships, carried). absurd ships)
-goes_with events item site (Pack action parent children) = (λ h. absurd h.0, λ (carrier, ships, carried). absurd ships)
-goes_with events item site (Ship items sites outside) = (
-  λ (goes, (carrier, there, carried)). (carrier, (there, goes), carried),
-  λ (carrier, (there, goes), carried). (goes, (carrier, there, carried)),
-)
 
 module _ (sites : List SiteEvents) (number : ℕ) (s : SiteEvents) (stands : slice_get sites number ≡ Some s) where
   -- what stands under an item, of the site
@@ -95,32 +84,6 @@ module _ (sites : List SiteEvents) (number : ℕ) (s : SiteEvents) (stands : sli
       carrier_found ([], chain, ends) = subst (IsFound item_cmp items) (sym ends) found
       carrier_found (next ∷ rest, ((k, e, below, at, packs), chain), ends) =
           all carrier (s, (number, slice_get_within sites number s stands, get_or_from_slice_get sites number s s stands), (k, (e, slice_get-get_or s.events k e below ∙ ap Some at, fills_packed e.body carrier next packs)))
-
-  module _ (item : List ℕ) (places : List EventPlace) (are : AreShipments s.events number item places) (to : ℕ) where
-    one_of_shipments : (n : ℕ) → IsOneOf (λ p. (number ≡ p.site) × StandsAt s.events (Goes to) p.event) places n ↔ ShipsAt s.events item to n
-    one_of_shipments n = (
-      λ (p, there, at, (here, (e, stands', goes))).
-          let (f, stands'', off) = (are p here).0 there in
-          let one : f ≡ e = some_is f e (sym stands'' ∙ stands') in
-          (e, subst (λ k. slice_get s.events k ≡ Some e) at stands', (goes_with s.events item to e.body).0 (goes, subst (λ (c : Content). ShipsOff s.events item c.body) one off)),
-      λ (e, stands', ships).
-          let (goes, off) = (goes_with s.events item to e.body).1 ships in
-          (record { site = number; event = n }, (are (record { site = number; event = n }) refl).1 (e, stands', off), refl, (refl, (e, stands', goes))),
-    )
-
-    sent_somewhere : IsSentTo s.events item to → (n : ℕ) × ShipsAt s.events item to n
-    sent_somewhere (carrier, (n, e, below, at, ships), carried) = (n, (e, slice_get-get_or s.events n e below ∙ ap Some at, (carrier, ships, carried)))
-
-    -- where none is found there is no shipment
-    pub no_shipment : IsFirstOrNone (IsOneOf (λ p. (number ≡ p.site) × StandsAt s.events (Goes to) p.event) places) None → AnswersShipment s.events item to None
-    no_shipment none sent = let (n, ships) = sent_somewhere sent in none n ((one_of_shipments n).1 ships)
-
-    -- the one that is found has an event
-    pub shipment_there : (n : ℕ) → IsFirstOrNone (IsOneOf (λ p. (number ≡ p.site) × StandsAt s.events (Goes to) p.event) places) (Some n) → TellsEvent s.events n None → ⊥
-    shipment_there n first none = let (e, stands', ships) = (one_of_shipments n).0 first.0 in none_is e (sym none ∙ stands')
-
-    pub shipment_found : (n : ℕ) (x : CapturedEvent) → IsFirstOrNone (IsOneOf (λ p. (number ≡ p.site) × StandsAt s.events (Goes to) p.event) places) (Some n) → TellsEvent s.events n (Some x) → AnswersShipment s.events item to (Some (Shipped x))
-    shipment_found n x first told = (n, first_alike (IsOneOf (λ p. (number ≡ p.site) × StandsAt s.events (Goes to) p.event) places) (ShipsAt s.events item to) one_of_shipments n first, told)
 
   module _ (items : BTreeSet (List ℕ)) (takers givers : Index) (ins : ArePlaces (Among items TakesIn) takers sites) (outs : ArePlaces (Among items GivesOut) givers sites) (i j : List ℕ)
       (asked : IsFound item_cmp items i) (asked' : IsFound item_cmp items j) (taken given : List EventPlace)
@@ -200,7 +163,7 @@ module _ (sites : List SiteEvents) (p q : Pair) (s : SiteEvents) (stands : slice
       (λ (apart, item, sent). apart (here ∙ ap (λ (u : SiteEvents). u.me) (sym one)))
       (λ (me, made). none (subst (λ (u : SiteEvents). IsMadeOf u.events p.item q.item) one made))
       related
-  step_of_make (Some (Shipped y)) here answer = absurd answer
+  step_of_make (Some (Shipped y packings)) here answer = absurd answer
   step_of_make (Some (Made y z)) here answer = (s, stands, (here, answer))
 
   -- one to another site
@@ -211,7 +174,7 @@ module _ (sites : List SiteEvents) (p q : Pair) (s : SiteEvents) (stands : slice
       (λ (other, item, sent). none (subst (λ i. IsSentTo s.events i q.site) (sym same) (subst (λ (u : SiteEvents). IsSentTo u.events p.item q.site) one sent)))
       (λ (me, made). apart (me ∙ ap (λ (u : SiteEvents). u.me) one))
       related
-  step_of_shipment (Some (Shipped y)) apart same answer = (s, stands, (apart, same, subst (λ i. IsFirstShipment s.events i q.site y) same answer))
+  step_of_shipment (Some (Shipped y packings)) apart same answer = (s, stands, (apart, same, subst (λ i. IsFirstShipment s.events i q.site y packings) same answer))
   step_of_shipment (Some (Made y z)) apart same answer = absurd answer
 
   -- none relates these
@@ -226,30 +189,3 @@ module _ (sites : List SiteEvents) (p q : Pair) (s : SiteEvents) (stands : slice
 -- nor where there is no such site
 pub no_site : (sites : List SiteEvents) (p q : Pair) → length sites ≤ p.site → AnswersStep sites p q None
 no_site sites p q past (s, at, related) = omega (arith, past, slice_get_within sites p.site s at)
-
--- the shipments of all that carries an item
-pub carriers_ship : (s : SiteEvents) (number : ℕ) (item : List ℕ) (sent : Index) (carriers : List Pair) (places : List EventPlace) → ((i : List ℕ) → IsCarriedWith s.events i item → AreItemPlaces ShipsItself s.events number sent i)
-    → ((p : Pair) → Contains carriers p ↔ ((p.site ≡ s.me) × IsCarriedWith s.events p.item item))
-    → ((p : EventPlace) → Contains places p ↔ ByOne carriers (λ (c : Pair). Contains (or_no_places (get item_cmp sent c.item))) p) → AreShipments s.events number item places
-carriers_ship s number item sent carriers places are exact gathered p here = (
-  λ there.
-      let (c, among, kept) = (gathered p).0 there in
-      let carried = ((exact c).0 among).1 in
-      let (e, stands, ships) = (are c.item carried p here).0 kept in
-      (e, stands, ships_off e.body c.item ships carried),
-  λ (e, stands, off).
-      let (carrier, ships, carried) = off_ships e.body off in
-      (gathered p).1 (record { site = s.me; item = carrier }, (exact (record { site = s.me; item = carrier })).1 (refl, carried), (are carrier carried p here).1 (e, stands, ships)),
-)
-  where
-    ships_off : (b : Body) (carrier : List ℕ) → ShipsItself carrier b → IsCarriedWith s.events carrier item → ShipsOff s.events item b
-    ships_off (Note items) carrier ships carried = absurd ships
-    ships_off (Ship items sites outside) carrier ships carried = (carrier, ships, carried)
-    ships_off (Make id ins outs) carrier ships carried = absurd ships
-    ships_off (Pack action parent children) carrier ships carried = absurd ships
-
-    off_ships : (b : Body) → ShipsOff s.events item b → (carrier : List ℕ) × ShipsItself carrier b × IsCarriedWith s.events carrier item
-    off_ships (Note items) off = absurd off
-    off_ships (Ship items sites outside) (carrier, ships, carried) = (carrier, ships, carried)
-    off_ships (Make id ins outs) off = absurd off
-    off_ships (Pack action parent children) off = absurd off

@@ -1,6 +1,8 @@
 pub mod Adding
 pub mod Additions
 pub mod BackTraces
+pub mod CarriersShipped
+pub mod ContentsTraced
 pub mod EndedRecalls
 pub mod EndedTraces
 pub mod ItemsOfSites
@@ -14,10 +16,12 @@ pub mod LiesInItems
 pub mod OriginsFound
 pub mod Outgoing
 pub mod OutsideLaws
+pub mod PackingsFound
 pub mod Parting
 pub mod PlacesKept
 pub mod EventsRelating
 pub mod Results
+pub mod ShipmentsFound
 pub mod SourcesFound
 pub mod StepsAlong
 pub mod StepsRelated

@@ -10,7 +10,9 @@ use Rattle.event_json.specs.declared.bodies.Body.TheVariants.{Note, Ship, Make, 
 use Rattle.trace_core.specs.Pairs.{Carries, IsCarriedWith, Packs}
 use Rattle.trace_core.specs.PutIn.{filled}
 use Rattle.trace_core.specs.Relations.{Converse, Reaches}
+use Rattle.trace_core.specs.AllFound.{AreAllFound}
 use Rattle.trace_core.specs.declared.pairs.Pair.{Pair}
+use Rattle.trace_core.specs.declared.trails.FoundTrails.{FoundTrails}
 use Rattle.trace_core.proofs.Carrying.{deletes, observes, reaches_front}
 use Rattle.trace_core.proofs.ChainLaws.{reach_converse, reached_holds, reaches_itself, reaches_step}
 use Rattle.trace_core.specs.Searches.{AreUnseen}
@@ -23,7 +25,7 @@ use Rattle.report_core.specs.declared.makers.EventPlace.{EventPlace}
 use Rattle.report_core.proofs.Additions.{adds_alike}
 
 -- what an event fills is what it puts its items into
-packs_filled : (b : Body) (parent item container : List ℕ) → Packs parent item b → filled b ≡ Some container → Packs container item b
+pub packs_filled : (b : Body) (parent item container : List ℕ) → Packs parent item b → filled b ≡ Some container → Packs container item b
 packs_filled (Note items) parent item container packs fills = absurd packs
 packs_filled (Ship items sites outside) parent item container packs fills = absurd packs
 packs_filled (Make id ins outs) parent item container packs fills = absurd packs
@@ -58,7 +60,8 @@ all_filled events number packings p none found places seen seen' nothing lent ad
 }
 
 module _ (events : List Content) (number : ℕ) (packings : Index) (are : AreOwnPlaces PutsIn events number packings) where
-  lies_in : (p q : Pair) → LiesIn events number packings p q ↔ ((q.site ≡ p.site) × Carries events q.item p.item)
+  -- the item of the one pair was put into that of the other
+  pub lies_in : (p q : Pair) → LiesIn events number packings p q ↔ ((q.site ≡ p.site) × Carries events q.item p.item)
   lies_in p q = (
     λ (place, kept, (at, (here, (e, stands, fills)))).
         let (f, stands', (parent, packs)) = (are p.item place here).0 kept in
@@ -86,3 +89,11 @@ module _ (events : List Content) (number : ℕ) (packings : Index) (are : AreOwn
         item p.item ((reach_converse (Carries events) item p.item).1 carried) (reaches_itself (LiesIn events number packings) (record { site = site; item = item })) in
         subst (λ q. Reaches (LiesIn events number packings) (record { site = site; item = item }) q) (λ k. record { site = sym at k; item = p.item }) up,
   )
+
+  -- so of all that is found
+  pub all_carriers : (site : ℕ) (item : List ℕ) (found : FoundTrails) → AreAllFound (LiesIn events number packings) (record { site = site; item = item }) found
+      → (p : Pair) → Contains found.pairs p ↔ ((p.site ≡ site) × IsCarriedWith events p.item item)
+  all_carriers site item found all p =
+      let up = carried_up site item p in
+      let reached = all.reached p in
+      (λ h. up.0 (reached.0 h), λ h. reached.1 (up.1 h))

@@ -1,11 +1,11 @@
 -- What is told of shipments out of the traced sites.
-use Rattle.std.proofs.Common.{◌≡◌, ℕ, zero, suc, List, [], ◌∷◌, length, slice_get, Some, refl, sym, ap, ◌∙◌, subst, ⊎_elim, arith}
+use Rattle.std.proofs.Common.{◌≡◌, ℕ, suc, List, [], ◌∷◌, length, slice_get, Some, refl, sym, ap, ◌∙◌, subst, ⊎_elim, arith}
 use Rattle.std.specs.List.{AllZip}
 use Rattle.std.specs.Ordering.{ordering_reverse}
 use Rattle.std.specs.declared.cmp.Ordering.TheVariants.{Less, Greater}
 use Rattle.event_json.specs.Events.{Content}
 use Rattle.trace_core.specs.Sites.{SiteEvents}
-use Rattle.trace_core.proofs.NumberLists.{some_is, none_is}
+use Rattle.trace_core.proofs.NumberLists.{some_is}
 use Rattle.site_core.specs.ItemSets.{item_cmp}
 use Rattle.site_core.proofs.ItemOrder.{item_total}
 use Rattle.report_core.specs.Laws.{IsShownBy, OneOutsideEvent, OutsideIsShown, shown_of}
@@ -14,14 +14,9 @@ use Rattle.report_core.specs.OutsideEvents.{IsCarrierAt, ShowsOut, TellsOutside}
 use Rattle.report_core.specs.TrailEvents.{StandsAt}
 use Rattle.report_core.specs.declared.outside.OutsideShipment.{OutsideShipment}
 use Rattle.report_core.specs.declared.outside_events.OutsideEvent.{OutsideEvent}
+use Rattle.report_core.proofs.Zips.{zip_beside}
 
--- what stands beside one of the first list
-beside : {A B : Type 0} (R : A → B → Type 0) (xs : List A) (ys : List B) → AllZip R xs ys → (k : ℕ) (x : A) → slice_get xs k ≡ Some x → (y : B) × (slice_get ys k ≡ Some y) × R x y
-beside R [] ys zip k x at = absurd (none_is x at)
-beside R (z ∷ xs) [] zip k x at = absurd zip
-beside R (z ∷ xs) (y ∷ ys) zip zero x at = (y, refl, subst (λ w. R w y) (some_is z x at) zip.0)
-beside R (z ∷ xs) (y ∷ ys) zip (suc k) x at = beside R xs ys zip.1 k x at
-
+-- as many are told
 as_long : {A B : Type 0} (R : A → B → Type 0) (xs : List A) (ys : List B) → AllZip R xs ys → length ys ≡ length xs
 as_long R [] [] zip = refl
 as_long R [] (y ∷ ys) zip = absurd zip
@@ -49,7 +44,7 @@ shown_by sites x told (s, listed, (n, (stands, least), (e, at, number, id, time)
 
 pub outside_is_shown : OutsideIsShown
 outside_is_shown sites outside told are = (
-  λ k x at. let (t, at', tells) = beside (TellsOutside sites) outside told are k x at in (t, at', shown_by sites x t tells),
+  λ k x at. let (t, at', tells) = zip_beside (TellsOutside sites) outside told are k x at in (t, at', shown_by sites x t tells),
   as_long (TellsOutside sites) outside told are,
 )
 

@@ -5,14 +5,12 @@ use Rattle.std.proofs.lemmas.List.{take_all}
 use Rattle.std.proofs.lemmas.List.Elements.{All-more}
 use Rattle.std.proofs.lemmas.Option.{slice_get-get_or}
 use Rattle.trace_core.specs.Relations.{IsChain}
-use Rattle.trace_core.specs.Sites.{SiteEvents}
 use Rattle.trace_core.specs.declared.pairs.Pair.{Pair}
 use Rattle.trace_core.proofs.NumberLists.{some_is, none_is}
 use Rattle.trace_core.proofs.Zips.{zip_more}
-use Rattle.report_core.specs.TrailEvents.{TellsStep, or_no_pairs, pairs_shown, steps_of}
+use Rattle.report_core.specs.TrailEvents.{or_no_pairs, pairs_shown, steps_of}
 use Rattle.report_core.specs.declared.trail_events.ShownSteps.{ShownSteps}
 use Rattle.report_core.specs.declared.trail_events.ShownSteps.TheVariants.{Each, First, Last}
-use Rattle.report_core.specs.declared.trail_events.StepEvents.{StepEvents}
 
 -- one pair of a chain and the next
 pub chain_step : (R : Pair → Pair → Type 0) (trail : List Pair) (k : ℕ) (p q : Pair) → IsChain R trail → slice_get trail k ≡ Some p → slice_get trail (suc k) ≡ Some q → R p q
@@ -71,13 +69,12 @@ module _ (pairs : List Pair) (place : ℕ) (some : 0 < place) where
     step_related R chain = chain_step R pairs (place - 1) p q chain stands after
 
     -- one step more
-    pub one_told : (sites : List SiteEvents) (told : List StepEvents) (events : StepEvents) → AllZip (λ step. TellsStep sites step.0 step.1) (take (place - 1) (steps_of pairs)) told
-        → TellsStep sites p q events → AllZip (λ step. TellsStep sites step.0 step.1) (take (place + 1 - 1) (steps_of pairs)) (told ++ events ∷ [])
-    one_told sites told events before tells =
+    pub one_told : {B : Type 0} (T : Pair × Pair → B → Type 0) (told : List B) (x : B) → AllZip T (take (place - 1) (steps_of pairs)) told → T (p, q) x → AllZip T (take (place + 1 - 1) (steps_of pairs)) (told ++ x ∷ [])
+    one_told T told x before tells =
         let one = step_at pairs (place - 1) p q stands after in
         let is : place - 1 + 1 ≡ place + 1 - 1 = omega (arith, some) in
-        subst (λ n. AllZip (λ step. TellsStep sites step.0 step.1) (take n (steps_of pairs)) (told ++ events ∷ [])) is
-        (zip_more (λ step. TellsStep sites step.0 step.1) (steps_of pairs) told (place - 1) (p, q) events one.0 one.1 before tells)
+        subst (λ n. AllZip T (take n (steps_of pairs)) (told ++ x ∷ [])) is
+        (zip_more T (steps_of pairs) told (place - 1) (p, q) x one.0 one.1 before tells)
 
     -- what holds of each step holds of this one
     pub step_holds : (P : Pair × Pair → Type 0) → All P (steps_of pairs) → P (p, q)
@@ -96,7 +93,6 @@ module _ (pairs : List Pair) (place : ℕ) (some : 0 < place) where
   all_hold P past before = subst (λ steps. All P steps) (take_all (place - 1) (steps_of pairs) (omega (arith, past, steps_long pairs))) before
 
   -- all of them
-  pub all_told : (sites : List SiteEvents) (told : List StepEvents) → length pairs ≤ place → AllZip (λ step. TellsStep sites step.0 step.1) (take (place - 1) (steps_of pairs)) told
-      → AllZip (λ step. TellsStep sites step.0 step.1) (steps_of pairs) told
-  all_told sites told past before = subst (λ steps. AllZip (λ step. TellsStep sites step.0 step.1) steps told)
+  pub all_told : {B : Type 0} (T : Pair × Pair → B → Type 0) (told : List B) → length pairs ≤ place → AllZip T (take (place - 1) (steps_of pairs)) told → AllZip T (steps_of pairs) told
+  all_told T told past before = subst (λ steps. AllZip T steps told)
       (take_all (place - 1) (steps_of pairs) (omega (arith, past, steps_long pairs))) before

@@ -60,13 +60,13 @@ TellsEvent events n (Some x) = IsEventAt events n x
 -- the first events that make the one item into the other, none where none does
 abbrev pub AnswersMake : List Content → List ℕ → List ℕ → Option StepEvents → Type 0
 AnswersMake events i j None = IsMadeOf events i j → ⊥
-AnswersMake events i j (Some (Shipped x)) = ⊥
+AnswersMake events i j (Some (Shipped x packings)) = ⊥
 AnswersMake events i j (Some (Made taken given)) = IsFirstMake events i j taken given
 
 -- the first shipment of the item to the site, none where none goes there
 abbrev pub AnswersShipment : List Content → List ℕ → ℕ → Option StepEvents → Type 0
 AnswersShipment events item site None = IsSentTo events item site → ⊥
-AnswersShipment events item site (Some (Shipped x)) = IsFirstShipment events item site x
+AnswersShipment events item site (Some (Shipped x packings)) = IsFirstShipment events item site x packings
 AnswersShipment events item site (Some (Made taken given)) = ⊥
 
 -- the items of both pairs are among those that are wanted; and where they are one, as in a shipment, shipments are

@@ -1,9 +1,11 @@
--- What a report, an audit and a trace say once a recall has ended, and that records have one verdict, one trace and one trace back.
+-- What a report, an audit and a trace say once a recall has ended, that records have one verdict, one trace and one trace back,
+-- and what a trace of an item with what lies in it has.
 use Rattle.std.specs.Prelude.{◌≡◌, ◌↔◌, ◌⊎◌, ◌<◌, ◌+◌, ℕ, Option, Some, option_map, IsSome, List, length, map, slice_get, Contains}
 use Rattle.event_json.specs.Events.{Content}
 use Rattle.frame_core.specs.Numbers.{Recall}
 use Rattle.trace_core.specs.Chains.{Related}
 use Rattle.trace_core.specs.Pairs.{IsCarriedWith}
+use Rattle.trace_core.specs.Relations.{Reaches}
 use Rattle.trace_core.specs.Sites.{SiteEvents}
 use Rattle.trace_core.specs.Trails.{IsTrail}
 use Rattle.trace_core.specs.declared.pairs.Pair.{Pair}
@@ -18,7 +20,7 @@ use Rattle.site_recovery.specs.Recalls.{quarantined}
 use Rattle.report_core.specs.Outside.{ShipsOut}
 use Rattle.report_core.specs.OutsideEvents.{AreToldOutside}
 use Rattle.report_core.specs.Reports.{IsReport}
-use Rattle.report_core.specs.Traces.{IsBackTrace, IsKnownAt, IsTrace, TellsTraceFault}
+use Rattle.report_core.specs.Traces.{IsBackTrace, IsContentsTrace, IsKnownAt, IsTrace, TellsTraceFault}
 use Rattle.report_core.specs.Verdicts.{IsVerdict}
 use Rattle.report_core.specs.declared.audits.Verdict.{Verdict}
 use Rattle.report_core.specs.declared.audits.Verdict.TheVariants.{Equal}
@@ -69,6 +71,12 @@ abbrev pub TracesGoOn : Type 0
 TracesGoOn =
     (records : List Record) (site : ℕ) (item : List ℕ) (p : Pair) (t u : Trace) → IsTrace records site item t → Contains t.pairs p → IsTrace records p.site p.item u
     → ((q : Pair) → Contains u.pairs q → Contains t.pairs q) × ((x : OutsideShipment) → Contains u.outside x → Contains t.outside x)
+
+-- A trace of an item with what lies in it has just the pairs that the item or one of these reaches, each at the site.
+abbrev pub ContentsAreTraced : Type 0
+ContentsAreTraced =
+    (records : List Record) (site : ℕ) (item : List ℕ) (inside : List (List ℕ)) (t : Trace) → IsContentsTrace records site item inside t
+    → (p : Pair) → Contains t.pairs p ↔ ((i : List ℕ) × ((i ≡ item) ⊎ Contains inside i) × Reaches (Related (captured_of records)) (record { site = site; item = i }) p)
 
 -- A trace and a trace back are converse: the one has the other's root just where the other has its own.
 abbrev pub TracesAreConverse : Type 0

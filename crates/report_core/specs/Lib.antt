@@ -8,6 +8,7 @@ pub mod Laws
 pub mod Leaving
 pub mod Outside
 pub mod OutsideEvents
+pub mod Packings
 pub mod Reports
 pub mod Sources
 pub mod Traces

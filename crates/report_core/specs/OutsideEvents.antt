@@ -1,14 +1,12 @@
 -- What shows that an item was shipped out of the traced sites (GS1 EPCIS 2.0, section 7.4): the first shipment of it, or of
 -- what it lies in, to the destination, and what of that shipment it left with.
-use Rattle.std.specs.Prelude.{◌≡◌, ◌⊎◌, ℕ, List, Some, slice_get}
+use Rattle.std.specs.Prelude.{◌≡◌, ℕ, List, Some, slice_get}
 use Rattle.std.specs.List.{AllZip}
-use Rattle.std.specs.declared.cmp.Ordering.TheVariants.{Less}
 use Rattle.event_json.specs.Events.{Content}
 use Rattle.trace_core.specs.Pairs.{IsCarriedWith}
 use Rattle.trace_core.specs.Sites.{SiteEvents}
-use Rattle.site_core.specs.ItemSets.{item_cmp}
 use Rattle.report_core.specs.Outside.{ShipsOut}
-use Rattle.report_core.specs.TrailEvents.{IsEventAt, IsFirst, StandsAt}
+use Rattle.report_core.specs.TrailEvents.{IsCarrierBy, IsEventAt, IsFirst, StandsAt}
 use Rattle.report_core.specs.declared.outside.OutsideShipment.{OutsideShipment}
 use Rattle.report_core.specs.declared.outside_events.OutsideEvent.{OutsideEvent}
 
@@ -18,11 +16,8 @@ ShipsOutAt events item destination = StandsAt events (λ b. (carrier : List ℕ)
 
 -- what the item left with by the shipment at the place: the item itself, where that is shipped, and else the first by key of
 -- what is shipped that it lies in
-pub record IsCarrierAt (events : List Content) (item destination : List ℕ) (n : ℕ) (carrier : List ℕ) : Type 0 where
-  pub shipped : StandsAt events (ShipsOut carrier destination) n
-  pub carried : IsCarriedWith events carrier item
-  pub itself : StandsAt events (ShipsOut item destination) n → carrier ≡ item
-  pub least : (c : List ℕ) → StandsAt events (ShipsOut c destination) n → IsCarriedWith events c item → (carrier ≡ item) ⊎ ((carrier ≡ c) ⊎ (item_cmp carrier c ≡ Less))
+abbrev pub IsCarrierAt : List Content → List ℕ → List ℕ → ℕ → List ℕ → Type 0
+IsCarrierAt events item destination n carrier = IsCarrierBy events (λ c. ShipsOut c destination) item n carrier
 
 -- the first such shipment, and what the item left with by it
 abbrev pub ShowsOut : List Content → List ℕ → List ℕ → OutsideEvent → Type 0

@@ -1,10 +1,11 @@
 -- What an item at a site reaches, whether or not it was recalled.
-use Rattle.std.specs.Prelude.{◌≡◌, ◌↔◌, ℕ, List, Some, Contains}
+use Rattle.std.specs.Prelude.{◌≡◌, ◌↔◌, ◌⊎◌, ℕ, List, Some, Contains}
 use Rattle.std.specs.List.{AllZip}
 use Rattle.trace_core.specs.Chains.{Related}
 use Rattle.trace_core.specs.Pairs.{IsStrictlyAscending}
 use Rattle.trace_core.specs.Relations.{Reaches}
-use Rattle.trace_core.specs.Trails.{TellsTrail}
+use Rattle.trace_core.specs.Sites.{SiteEvents}
+use Rattle.trace_core.specs.Trails.{TellsTrail, TellsTrailBy}
 use Rattle.trace_core.specs.declared.pairs.Pair.{Pair}
 use Rattle.site_core.specs.Records.{Record}
 use Rattle.site_core.specs.Spreading.{IsKnownItem}
@@ -32,6 +33,27 @@ pub record IsTrace (records : List Record) (site : ℕ) (item : List ℕ) (trace
   pub exact : (p : Pair) → Contains trace.pairs p ↔ IsReachedFrom records trace.root p
   pub trails : AllZip (λ p trail. TellsTrail (captured_of records) trace.root p (Some trail)) trace.pairs trace.trails
   pub outside : AreOutsideOf (world_of records) (IsReachedFrom records trace.root) trace.outside
+
+-- the one pair is the root, and the other one an item at its site that lies in it
+abbrev pub HasInside : Pair → List (List ℕ) → Pair → Pair → Type 0
+HasInside root inside p q = (p ≡ root) × (q.site ≡ root.site) × Contains inside q.item
+
+-- the one pair is related to the other one, by the events of the sites, or has it inside
+abbrev pub LeadsOn : List SiteEvents → Pair → List (List ℕ) → Pair → Pair → Type 0
+LeadsOn sites root inside p q = Related sites p q ⊎ HasInside root inside p q
+
+-- a chain of pairs, each of which is related to the next or has it inside, leads from the root to the pair
+abbrev pub IsReachedWith : List Record → Pair → List (List ℕ) → Pair → Type 0
+IsReachedWith records root inside p = Reaches (LeadsOn (captured_of records) root inside) root p
+
+-- the trace gives the item at the site; what it reaches by itself or through the items that lie in it, by site and item and
+-- each once; to each of these pairs, in their order, a shortest chain; and what of them was shipped out
+pub record IsContentsTrace (records : List Record) (site : ℕ) (item : List ℕ) (inside : List (List ℕ)) (trace : Trace) : Type 0 where
+  pub root : trace.root ≡ record { site = site; item = item }
+  pub ascending : IsStrictlyAscending trace.pairs
+  pub exact : (p : Pair) → Contains trace.pairs p ↔ IsReachedWith records trace.root inside p
+  pub trails : AllZip (λ p trail. TellsTrailBy (LeadsOn (captured_of records) trace.root inside) trace.root p (Some trail)) trace.pairs trace.trails
+  pub outside : AreOutsideOf (world_of records) (IsReachedWith records trace.root inside) trace.outside
 
 -- a chain of related pairs, by the events of all sites, leads from the pair to the root
 abbrev pub LeadsTo : List Record → Pair → Pair → Type 0

@@ -1,14 +1,18 @@
 -- Behind each step of a trail the captured events that relate its two pairs (GS1 EPCIS 2.0, section 7.4): the first shipment of
--- the item, or of what it lies in, to the other site, or the first transformation that takes the one item in, with the first
--- part of it that gives the other one out.
+-- the item, or of what it lies in, to the other site, with the packings by which it came to lie in that; or the first
+-- transformation that takes the one item in, with the first part of it that gives the other one out.
 use Rattle.std.specs.Prelude.{◌≡◌, ◌≢◌, ◌⊎◌, ◌≤◌, ◌+◌, ◌-◌, ◌++◌, ℕ, List, [], ◌∷◌, Option, None, Some, length, take, drop, slice_get}
 use Rattle.std.specs.List.{AllZip, zip}
+use Rattle.std.specs.declared.cmp.Ordering.TheVariants.{Less}
 use Rattle.event_json.specs.Events.{Content}
 use Rattle.event_json.specs.declared.bodies.Body.{Body}
-use Rattle.trace_core.specs.Pairs.{GivesOut, HaveOneId, IsCarriedWith, IsRelated, Ships, TakesIn, make_id}
+use Rattle.trace_core.specs.Pairs.{Carries, GivesOut, HaveOneId, IsCarriedWith, IsRelated, Packs, Ships, TakesIn, make_id}
+use Rattle.trace_core.specs.Relations.{Chain}
 use Rattle.trace_core.specs.Sites.{SiteEvents}
 use Rattle.trace_core.specs.declared.pairs.Pair.{Pair}
+use Rattle.site_core.specs.ItemSets.{item_cmp}
 use Rattle.report_core.specs.EventTimes.{TellsTime}
+use Rattle.report_core.specs.declared.packing_events.PackingEvent.{PackingEvent}
 use Rattle.report_core.specs.declared.trail_events.CapturedEvent.{CapturedEvent}
 use Rattle.report_core.specs.declared.trail_events.ShownSteps.{ShownSteps}
 use Rattle.report_core.specs.declared.trail_events.ShownSteps.TheVariants.{Each, First, Last}
@@ -48,9 +52,40 @@ TakesInAt events i j n = StandsAt events (TakesIn i) n × ((m : ℕ) × GivesOut
 abbrev pub IsEventAt : List Content → ℕ → CapturedEvent → Type 0
 IsEventAt events n x = (e : Content) × (slice_get events n ≡ Some e) × (x.number ≡ n + 1) × (x.id ≡ e.id) × TellsTime e.instant x.time
 
--- the first shipment of the item, or of what it lies in, to the site
-abbrev pub IsFirstShipment : List Content → List ℕ → ℕ → CapturedEvent → Type 0
-IsFirstShipment events item site x = (n : ℕ) × IsFirst (ShipsAt events item site) n × IsEventAt events n x
+-- what the item goes with by the shipment at the place, which ships each carrier of which `To` tells: the item itself, where
+-- that is one, and else the first by key of those that it lies in
+pub record IsCarrierBy (events : List Content) (To : List ℕ → Body → Type 0) (item : List ℕ) (n : ℕ) (carrier : List ℕ) : Type 0 where
+  pub shipped : StandsAt events (To carrier) n
+  pub carried : IsCarriedWith events carrier item
+  pub itself : StandsAt events (To item) n → carrier ≡ item
+  pub least : (c : List ℕ) → StandsAt events (To c) n → IsCarriedWith events c item → (carrier ≡ item) ⊎ ((carrier ≡ c) ⊎ (item_cmp carrier c ≡ Less))
+
+-- what it goes with to a site
+abbrev pub IsCarrierTo : List Content → List ℕ → ℕ → ℕ → List ℕ → Type 0
+IsCarrierTo events item site n carrier = IsCarrierBy events (λ c. Ships c site) item n carrier
+
+-- the first event that puts the inner item into the outer one
+abbrev pub IsFirstPacking : List Content → List ℕ → List ℕ → CapturedEvent → Type 0
+IsFirstPacking events inner outer x = (n : ℕ) × IsFirst (StandsAt events (Packs outer inner)) n × IsEventAt events n x
+
+-- each packing puts the one before it, and the first one the item, into something, by the first event that does; the last one
+-- puts it into the carrier, which is the item where there are none
+abbrev pub LeadInto : List Content → List ℕ → List PackingEvent → List ℕ → Type 0
+LeadInto events item [] carrier = item ≡ carrier
+LeadInto events item (x ∷ packings) carrier = IsFirstPacking events item x.into x.event × LeadInto events x.into packings carrier
+
+-- no fewer packings lead from the item into the carrier
+abbrev pub AreFewest : List Content → List ℕ → List PackingEvent → List ℕ → Type 0
+AreFewest events item packings carrier = (n : ℕ) → Chain (Carries events) carrier n item → length packings ≤ n
+
+-- how the item came to lie in the carrier
+abbrev pub ArePackings : List Content → List ℕ → List PackingEvent → List ℕ → Type 0
+ArePackings events item packings carrier = LeadInto events item packings carrier × AreFewest events item packings carrier
+
+-- the first shipment of the item, or of what it lies in, to the site, and how it came to lie in what it went with
+abbrev pub IsFirstShipment : List Content → List ℕ → ℕ → CapturedEvent → List PackingEvent → Type 0
+IsFirstShipment events item site x packings =
+    (n : ℕ) × IsFirst (ShipsAt events item site) n × IsEventAt events n x × ((carrier : List ℕ) × IsCarrierTo events item site n carrier × ArePackings events item packings carrier)
 
 -- the first event that takes the one item in for a transformation of the other one, with the first one that gives this out
 abbrev pub IsFirstMake : List Content → List ℕ → List ℕ → CapturedEvent → CapturedEvent → Type 0
@@ -59,7 +94,7 @@ IsFirstMake events i j taken given =
 
 -- the first events of the site that relate its item to the pair
 abbrev pub RelateFirst : SiteEvents → List ℕ → Pair → StepEvents → Type 0
-RelateFirst s item q (Shipped x) = (q.site ≢ s.me) × (q.item ≡ item) × IsFirstShipment s.events item q.site x
+RelateFirst s item q (Shipped x packings) = (q.site ≢ s.me) × (q.item ≡ item) × IsFirstShipment s.events item q.site x packings
 RelateFirst s item q (Made taken given) = (q.site ≡ s.me) × IsFirstMake s.events item q.item taken given
 
 -- the first events that relate a pair to another one, by the site of the first pair's number

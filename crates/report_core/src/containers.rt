@@ -1,9 +1,10 @@
 //! What items lay in.
 ghost use Rattle.std.specs.Prelude.{◌≡◌, ◌↔◌, Some, IfOk, OnOk, Contains, option_map};
+ghost use Rattle.trace_core.specs.AllFound.{AreAllFound};
 ghost use Rattle.trace_core.specs.Pairs.{IsCarriedWith, IsStrictlyAscending};
 ghost use Rattle.trace_core.specs.PutIn.{filled};
 ghost use Rattle.trace_core.specs.declared.pairs.Pair.{Pair};
-ghost use Rattle.report_core.specs.Containers.{IsFilledAt};
+ghost use Rattle.report_core.specs.Containers.{IsFilledAt, LiesIn};
 ghost use Rattle.report_core.specs.Sources.{AddsToList, AreOwnPlaces, ByOne, PutsIn};
 
 use crate::makers::{EventPlace, EventPlaces, places_under};
@@ -11,7 +12,7 @@ use epc_core::Epc;
 use event_json::{Action, Body, Sequence, SiteNo};
 use std::alloc::{AllocError, Global};
 use std::collections::BTreeMap;
-use trace_core::{Adjacency, Captured, Pair, Seen, trails_from};
+use trace_core::{Adjacency, Captured, FoundTrails, Pair, Seen, trails_from};
 
 /// What a site captured, and by item the packings that put it into something, by their places among the events of
 /// several sites, of which this one stands at a place.
@@ -132,10 +133,23 @@ pub fn carriers_of(
         × IsCarriedWith containers.now.site.now.events p.item item.now)) }
     ensures ascending { IfOk result IsStrictlyAscending }
 {
+    let found = trails_up(alloc, containers, item)?;
+    Ok(found.pairs)
+}
+
+/// These, and to each a shortest trail from the item, from each to what it was put into.
+pub fn trails_up(
+    alloc: Global,
+    containers: &Containers<'_>,
+    item: &Epc,
+) -> Result<FoundTrails, AllocError>
+    ensures { IfOk result (AreAllFound
+        (LiesIn containers.now.site.now.events containers.now.number containers.now.packings.now)
+        (record { site = containers.now.site.now.me; item = item.now })) }
+{
     let root = Pair {
         site: containers.site.me(),
         item: item.copy(alloc)?,
     };
-    let found = trails_from(alloc, containers, &root)?;
-    Ok(found.pairs)
+    trails_from(alloc, containers, &root)
 }

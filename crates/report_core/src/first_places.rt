@@ -2,6 +2,7 @@
 ghost use Rattle.std.specs.Prelude.{◌≡◌, ◌↔◌, ◌⊎◌, ◌≤◌, ℕ, Contains, IfOk, IsTrue, OnOk, Some};
 ghost use Rattle.std.specs.Ordering.{nat_cmp};
 ghost use Rattle.trace_core.specs.Pairs.{HaveOneId, make_id};
+ghost use Rattle.trace_core.specs.PutIn.{filled};
 ghost use Rattle.report_core.specs.TrailEvents.{AreOfOneMake, IsFirstOrNone, StandsAt};
 ghost use Rattle.trace_core.specs.Searches.{IsFound};
 ghost use Rattle.report_core.specs.FirstPlaces.{Goes, IsGroupAt, IsOfOne, IsOneOf};
@@ -9,9 +10,11 @@ ghost use Rattle.report_core.specs.Leaving.{LeavesFor};
 ghost use Rattle.report_core.specs.Sources.{AddsTo, ByOne};
 ghost use Rattle.report_core.specs.declared.makers.EventPlace.{EventPlace};
 
+use crate::containers::filled;
 use crate::destinations::Destination;
 use crate::makers::EventPlace;
 use crate::sources::id_of;
+use epc_core::Epc;
 use event_json::{Body, PlainText, SiteNo};
 use std::alloc::{AllocError, Global};
 use std::collections::BTreeSet;
@@ -137,6 +140,47 @@ fn names(texts: &[PlainText], text: &PlainText) -> bool
     ensures { IsTrue result ↔ Contains texts.now text.now }
 {
     texts.contains(text)
+}
+
+/// Whether an event of the site at a place among all puts something into an item.
+#[derive(Drop)]
+pub struct PutsInto<'a> {
+    pub site: &'a Captured,
+    pub number: usize,
+    pub into: &'a Epc,
+}
+
+impl PlaceTest for PutsInto<'_> {
+    ghost use Rattle.std.specs.Prelude.{◌≡◌, Some};
+    ghost use Rattle.trace_core.specs.PutIn.{filled};
+    ghost use Rattle.report_core.specs.TrailEvents.{StandsAt};
+
+    ghost holds = { λ t p. (t.number ≡ p.site)
+        × StandsAt t.site.now.events (λ b. filled b ≡ Some t.into.now) p.event };
+
+    fn test(&self, place: EventPlace) -> bool {
+        self.number == place.site && fills_at(self.site, place.event, self.into)
+    }
+}
+
+/// Whether the event at a place puts something into an item.
+fn fills_at(site: &Captured, place: usize, into: &Epc) -> bool
+    ensures { IsTrue result ↔ StandsAt site.now.events (λ b. filled b ≡ Some into.now) place }
+{
+    match site.event(place) {
+        Some(event) => fills(event.body(), into),
+        None => false,
+    }
+}
+
+/// Whether an event puts something into an item.
+fn fills(body: &Body, into: &Epc) -> bool
+    ensures { IsTrue result ↔ (filled body.now ≡ Some into.now) }
+{
+    match filled(body) {
+        Some(item) => item == into,
+        None => false,
+    }
 }
 
 /// Whether it is this place.

@@ -3,6 +3,7 @@
 ghost use Rattle.report_core.specs.Laws.{
   BackTracesGoOn,
   BackTracesHaveRoots,
+  ContentsAreTraced,
   EndedRootsAreKnown,
   EndsAreEqual,
   EndsAreTraced,
@@ -54,6 +55,12 @@ pub fn records_have_one_trace()
 /// What a trace of one of a trace's pairs finds, that trace has too: its pairs, and its shipments.
 pub fn a_trace_goes_on()
     ensures { TracesGoOn }
+{}
+
+/// The pairs of a trace of an item with what lies in it are just those that the item or one of these reaches, each at
+/// the site.
+pub fn contents_are_traced()
+    ensures { ContentsAreTraced }
 {}
 
 /// A trace finds the root of a trace back by the same records just where that finds its root.

@@ -1,10 +1,11 @@
 //! The report of a recall, and the audit of its end: what is quarantined against what its root reaches. And the trace
-//! of an item, whether or not it was recalled.
+//! of an item, whether or not it was recalled, alone or with what lies in it.
 #![tactic(auto)]
 
 mod audits;
 mod back_trails;
 mod containers;
+mod contents;
 mod destinations;
 mod differences;
 mod event_times;
@@ -17,6 +18,7 @@ mod makers;
 mod origins;
 mod outside;
 mod outside_events;
+mod packing_events;
 mod relating;
 mod reports;
 mod roots;
@@ -31,11 +33,13 @@ mod with_events;
 
 pub use audits::{Verdict, audit};
 pub use back_trails::{BackTrail, BackTrails};
+pub use contents::trace_contents;
 pub use destinations::Destination;
 pub use event_times::time_of;
 pub use faults::{ReportFault, TraceFault};
 pub use outside::OutsideShipment;
 pub use outside_events::OutsideEvent;
+pub use packing_events::PackingEvent;
 pub use reports::{RecallReport, report};
 pub use traces::{BackTrace, Trace};
 pub use tracing::trace;

@@ -88,7 +88,7 @@ pub(crate) fn left_with<'a>(
 }
 
 /// Which of some carriers is the first under whose item a place stands.
-fn first_under(
+pub(crate) fn first_under(
     shipments: &BTreeMap<Epc, EventPlaces>,
     carriers: &[Pair],
     place: EventPlace,
@@ -104,7 +104,11 @@ fn first_under(
 }
 
 /// Whether a place stands under an item.
-fn stands_under(shipments: &BTreeMap<Epc, EventPlaces>, item: &Epc, place: EventPlace) -> bool
+pub(crate) fn stands_under(
+    shipments: &BTreeMap<Epc, EventPlaces>,
+    item: &Epc,
+    place: EventPlace,
+) -> bool
     ensures { IsTrue result ↔ Keeps shipments.now (item.now, place) }
 {
     match first_where(&IsPlace { place }, places_under(shipments, item)) {

@@ -1,24 +1,22 @@
 //! The captured events that relate two pairs.
-ghost use Rattle.std.specs.Prelude.{◌≡◌, ℕ, List, Some, IfOk, IsTrue, option_map, slice_get};
+ghost use Rattle.std.specs.Prelude.{◌≡◌, Some, IfOk, IsTrue, slice_get};
 ghost use Rattle.trace_core.specs.Chains.{sites_at};
-ghost use Rattle.trace_core.specs.Pairs.{IsCarriedWith};
 ghost use Rattle.trace_core.specs.Searches.{IsFound};
 ghost use Rattle.site_core.specs.ItemSets.{item_cmp};
 ghost use Rattle.report_core.specs.TrailEvents.{AnswersStep};
-ghost use Rattle.report_core.specs.FirstPlaces.{AnswersMake, AnswersShipment, AreShipments, IsWantedStep, StayWanted, TellsEvent};
+ghost use Rattle.report_core.specs.FirstPlaces.{AnswersMake, AnswersShipment, IsWantedStep, StayWanted};
 ghost use Rattle.report_core.specs.Leaving.{AnswersLeaving, AnswersOutside, AreUnderEach, IsWantedItem};
-ghost use Rattle.report_core.specs.Sources.{AreItemPlaces, AreOwnPlaces, ArePlaces, PutsIn, ShipsItself};
+ghost use Rattle.report_core.specs.Sources.{ArePlaces, PutsIn};
 
-use crate::containers::{Containers, carriers_of};
-use crate::event_times::time_of;
+use crate::containers::{Containers, carriers_of, trails_up};
 use crate::first_places::{GoesOut, GoesTo, JoinedWith, OfOne, first_where, firsts_of};
 use crate::makers::{EventPlace, EventPlaces, Noting, places_of, places_under};
 use crate::outside::OutsideShipment;
 use crate::outside_events::{OutsideEvent, left_with};
-use crate::trail_events::{CapturedEvent, StepEvents};
+use crate::packing_events::packings_of;
+use crate::trail_events::{StepEvents, told};
 use crate::wanted_steps::{WantedSteps, with_containers};
 use epc_core::Epc;
-use event_json::PlainText;
 use std::alloc::{AllocError, Global};
 use std::collections::BTreeMap;
 use std::marker::Model;
@@ -149,7 +147,8 @@ impl<'a> RelatingEvents<'a> {
         }))
     }
 
-    /// The first event of the site that ships the item of a pair to the pair's site.
+    /// The first event of the site that ships the item of a pair to the pair's site, and how the item came to lie in
+    /// what that ships.
     fn shipment_of(
         &self,
         alloc: Global,
@@ -172,14 +171,23 @@ impl<'a> RelatingEvents<'a> {
             number,
             packings: &self.packings,
         };
-        let places = shipments_of(alloc, &containers, &self.sent, &to.item)?;
+        let found = trails_up(alloc, &containers, &to.item)?;
+        let places = places_under_each(alloc, &self.sent, found.pairs.as_slice())?;
         let Some(first) = first_where(&test, places.as_slice()) else {
             return Ok(None);
         };
-        match told(alloc, site, first)? {
-            Some(event) => Ok(Some(StepEvents::Shipped(event))),
-            None => Ok(None),
-        }
+        let place = EventPlace {
+            site: number,
+            event: first,
+        };
+        let Some(packings) = packings_of(alloc, &containers, &self.sent, place, &to.item, &found)?
+        else {
+            return Ok(None);
+        };
+        let Some(event) = told(alloc, site, first)? else {
+            return Ok(None);
+        };
+        Ok(Some(StepEvents::Shipped { event, packings }))
     }
 
     /// What shows that an item was shipped out of the traced sites, where it was: the first such shipment of the site,
@@ -261,24 +269,6 @@ fn packings_if(
     }
 }
 
-/// The places of the shipments of an item, or of what it lay in.
-fn shipments_of(
-    alloc: Global,
-    containers: &Containers<'_>,
-    sent: &BTreeMap<Epc, EventPlaces>,
-    item: &Epc,
-) -> Result<Vec<EventPlace>, AllocError>
-    requires packings { AreOwnPlaces PutsIn containers.now.site.now.events containers.now.number
-        containers.now.packings.now }
-    requires sent { (i : List ℕ) → IsCarriedWith containers.now.site.now.events i item.now
-        → AreItemPlaces ShipsItself containers.now.site.now.events containers.now.number sent.now i }
-    ensures { IfOk result (λ places. AreShipments containers.now.site.now.events
-        containers.now.number item.now places.items) }
-{
-    let carriers = carriers_of(alloc, containers, item)?;
-    places_under_each(alloc, sent, carriers.as_slice())
-}
-
 /// The places that stand under the items of some pairs.
 fn places_under_each(
     alloc: Global,
@@ -292,30 +282,4 @@ fn places_under_each(
         places.extend_from_slice(places_under(index, &pair.item))?;
     }
     Ok(places)
-}
-
-/// What is told of the event at a place, if there is one.
-fn told(alloc: Global, site: &Captured, place: usize) -> Result<Option<CapturedEvent>, AllocError>
-    ensures { IfOk result (TellsEvent site.now.events place) }
-{
-    if place >= site.len() {
-        return Ok(None);
-    }
-    let Some(event) = site.event(place) else {
-        return Ok(None);
-    };
-    let number = place as u64 + 1;
-    let id = copy_of(alloc, event.id())?;
-    let time = time_of(alloc, event.instant())?;
-    Ok(Some(CapturedEvent { number, id, time }))
-}
-
-/// An equal text, if there is one.
-fn copy_of(alloc: Global, text: Option<&PlainText>) -> Result<Option<PlainText>, AllocError>
-    ensures { IfOk result (λ copy. copy ≡ option_map (λ t. t.now) text.entry) }
-{
-    match text {
-        Some(text) => Ok(Some(text.copy(alloc)?)),
-        None => Ok(None),
-    }
 }

@@ -241,7 +241,7 @@ fn push_taken(
 }
 
 /// Adds some items at a site.
-fn push_items(
+pub(crate) fn push_items(
     alloc: Global,
     site: SiteNo,
     items: &[Epc],

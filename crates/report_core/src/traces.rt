@@ -5,17 +5,17 @@ use crate::outside::OutsideShipment;
 use event_json::Sequence;
 use trace_core::{AllTrails, Pair};
 
-/// What an item at a site reaches through the events that all sites captured, and what of it left the traced
-/// sites.
+/// What an item at a site, alone or with what lies in it, reaches through the events that all sites captured, and
+/// what of it left the traced sites.
 #[derive(Debug, Drop)]
 pub struct Trace {
     /// The item at the site.
     pub root: Pair,
-    /// What chains of made and shipped items reach from it, itself among them, by site, then by item, and each
-    /// once.
+    /// What chains of made and shipped items reach from it, or also from what lies in it, itself among them, by site,
+    /// then by item, and each once.
     pub pairs: Sequence<Pair>,
     /// For each of these pairs, in their order, a chain of related pairs from the root to it, without repeats and
-    /// with as few pairs as any.
+    /// with as few pairs as any. The root's next one may be what lies in it, in a trace with that.
     pub trails: AllTrails,
     /// What of these pairs was shipped to places outside the traced sites, by site, item and destination, and each
     /// once.

@@ -1,17 +1,18 @@
 //! The captured events behind the steps of trails.
-ghost use Rattle.std.specs.Prelude.{All, IfOk, OnOk, if◌then◌else◌};
+ghost use Rattle.std.specs.Prelude.{◌≡◌, All, IfOk, OnOk, if◌then◌else◌, option_map};
 ghost use Rattle.std.specs.List.{AllZip};
 ghost use Rattle.trace_core.specs.Relations.{IsChain};
-ghost use Rattle.report_core.specs.FirstPlaces.{AreWanted, AreWantedAlong, IsWantedStep};
+ghost use Rattle.report_core.specs.FirstPlaces.{AreWanted, AreWantedAlong, IsWantedStep, TellsEvent};
 ghost use Rattle.report_core.specs.TrailEvents.{AddsTold, AreToldAlong, IsRelatedStep, TellsStep, steps_of};
 ghost use Rattle.report_core.specs.declared.trail_events.ShownSteps.TheVariants.{Each};
 
 use crate::event_times::time_of;
+use crate::packing_events::PackingEvent;
 use crate::relating::RelatingEvents;
 use crate::shown_trails::ShownTrails;
-use event_json::{Event, PlainText, Sequence};
+use event_json::{PlainText, Sequence};
 use std::alloc::{AllocError, Global};
-use trace_core::Pair;
+use trace_core::{Captured, Pair};
 
 /// A captured event, as it is shown.
 #[derive(Debug, Drop)]
@@ -28,8 +29,15 @@ pub struct CapturedEvent {
 /// The events that relate two pairs.
 #[derive(Debug, Drop)]
 pub enum StepEvents {
-    /// The first shipment of the item, or of what it lies in, to the other site.
-    Shipped(CapturedEvent),
+    /// The item was shipped to the other site, by itself or in something.
+    Shipped {
+        /// The first shipment of the item, or of what it lies in, to the other site.
+        event: CapturedEvent,
+        /// How the item came to lie in what was shipped, from the item on outwards, by as few packings as any; none
+        /// where the item itself was shipped. Of several things that were shipped and that it lies in, in the first
+        /// one by key.
+        packings: Sequence<PackingEvent>,
+    },
     /// The first transformation that the item went into and the other one came out of: one event, or two parts of one
     /// transformationID.
     Made {
@@ -112,5 +120,35 @@ fn push_told(
             Ok(())
         }
         None => Ok(()),
+    }
+}
+
+/// What is told of the event at a place, if there is one.
+pub(crate) fn told(
+    alloc: Global,
+    site: &Captured,
+    place: usize,
+) -> Result<Option<CapturedEvent>, AllocError>
+    ensures { IfOk result (TellsEvent site.now.events place) }
+{
+    if place >= site.len() {
+        return Ok(None);
+    }
+    let Some(event) = site.event(place) else {
+        return Ok(None);
+    };
+    let number = place as u64 + 1;
+    let id = copy_of(alloc, event.id())?;
+    let time = time_of(alloc, event.instant())?;
+    Ok(Some(CapturedEvent { number, id, time }))
+}
+
+/// An equal text, if there is one.
+fn copy_of(alloc: Global, text: Option<&PlainText>) -> Result<Option<PlainText>, AllocError>
+    ensures { IfOk result (λ copy. copy ≡ option_map (λ t. t.now) text.entry) }
+{
+    match text {
+        Some(text) => Ok(Some(text.copy(alloc)?)),
+        None => Ok(None),
     }
 }

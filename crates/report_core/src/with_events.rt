@@ -39,14 +39,16 @@ pub struct ShownEvents {
 }
 
 /// Reports a recall as `report` does, and lists along each trail the first captured events that relate the pairs of
-/// each of its steps, or in brief of its last step alone, and for each shipment out of the traced sites the first event
-/// that shows it. A pair without a trail has no events.
+/// each of its steps, or in brief of its last step alone, with the packings by which a shipped item came to lie in
+/// what was shipped, and for each shipment out of the traced sites the first event that shows it. A pair without a
+/// trail has no events.
 ///
-/// Goes over the events of all sites three times, and twice more where a step that is told may be a shipment, or where
-/// something left the traced sites. Keeps the places of what takes the items of these steps in, gives them out and
-/// ships them alone; and for shipments also those of all packings, and of what ships anything that something was put
-/// into. Looks for each step that is told at the events that take its first item in and at those that give its second
-/// one out, or, as for each shipment out of the traced sites, at what the item lay in and at the shipments of that.
+/// Goes over the events of all sites three times, and twice more where a step that is told may be a shipment, or
+/// where something left the traced sites. Keeps the places of what takes the items of these steps in, gives them out
+/// and ships them alone; and for shipments also those of all packings, and of what ships anything that something was
+/// put into. Looks for each step that is told at the events that take its first item in and at those that give its
+/// second one out, or, as for each shipment out of the traced sites, at what the item lay in and at the shipments of
+/// that, and then at the packings on the way to what was shipped.
 ///
 /// # Errors
 /// As `report`.
@@ -59,8 +61,15 @@ pub fn report_with_events(
     requires all { AreAllSites (records_at sites.now) }
     ensures report { IfOk result (λ told. IsReport (records_at sites.now) recall told.0) }
     // Behind a step stand the first captured events of its first pair's site that relate its two pairs: the first
-    // shipment of the item, or of what it lies in, to the other site; or the first event that takes the item in for a
-    // transformation which gives the other one out, with the first part of it that does.
+    // shipment of the item, or of what it lies in, to the other site, and how the item came to lie in what was
+    // shipped; or the first event that takes the item in for a transformation which gives the other one out, with the
+    // first part of it that does.
+    //
+    // What was shipped is the item itself, where the shipment lists it, and else the first by key of those things
+    // that it ships to the site and that the item lies in. Packings lead there from the item on, none where it is the
+    // item itself: each puts what the one before it filled, and the first one the item, into something, the last one
+    // into what was shipped. No fewer packings lead there, and each is the site's first event that puts the one thing
+    // into the other.
     //
     // An event has its number at its site, from 1, its eventID, and its time in UTC, which is read back as its very
     // instant; there is none just where no time can name the instant.

@@ -21,10 +21,10 @@ loop-place-preserved c =
     let (events, pushed, tells) = c.in_ok-push_told.ensures in
     subst (AllZip (λ step. TellsStep sites step.0 step.1) (take (c.loop-place.place + 1 - 1) (steps_of c.args.pairs.now))) (sym pushed)
     (one_told c.args.pairs.now c.loop-place.place (omega (arith, c.loop-place.auto.place)) c.loop-place-test.true c.index-pairs-place.result c.index-pairs-place-in-loop-place.result
-    c.index-pairs-place.is c.index-pairs-place-in-loop-place.is sites c.loop-place.told.items events c.loop-place.invariant tells)
+    c.index-pairs-place.is c.index-pairs-place-in-loop-place.is (λ step. TellsStep sites step.0 step.1) c.loop-place.told.items events c.loop-place.invariant tells)
 
 pub returns : goal.returns
 returns c =
     let sites = c.args.relating.now.sites in
     subst (AllZip (λ step. TellsStep sites step.0 step.1) (steps_of c.args.pairs.now)) (sym c.from_vec.ensures)
-    (all_told c.args.pairs.now c.loop-place.place (omega (arith, c.loop-place.auto.place)) sites c.loop-place.told.items (omega (arith, c.loop-place-test.false)) c.loop-place.invariant)
+    (all_told c.args.pairs.now c.loop-place.place (omega (arith, c.loop-place.auto.place)) (λ step. TellsStep sites step.0 step.1) c.loop-place.told.items (omega (arith, c.loop-place-test.false)) c.loop-place.invariant)
