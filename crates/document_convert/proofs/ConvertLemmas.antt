@@ -5,6 +5,7 @@ use Rattle.std.proofs.lemmas.Grind.{flat_map-append}
 use Rattle.std.proofs.lemmas.List.{map-append, map_push}
 use Rattle.serde_json.specs.Data.{Data}
 use Rattle.serde_json.specs.View.{view}
+use Rattle.event_json.specs.Sites.{Site}
 use Rattle.serde_json.specs.declared.value.Value.{Value}
 use Rattle.document_convert.specs.Accounts.{none_yet, with_line, with_lines}
 use Rattle.document_convert.specs.Converted.{AreConverted, AreLinesOf, IsLineOf, account_from, account_with, as_asked, document_at, documents_of, in_light_parts, refused_at, refusals_of}
@@ -20,10 +21,10 @@ line_more [] d lines line none is = (line, [], is, refl, ap (λ ls. ls ++ line) 
 line_more (e ∷ ds) d lines line (first, rest, its, are, all) is =
     (first, rest ++ line, its, line_more ds d rest line are is, ap (λ ls. ls ++ line) all ∙ append_assoc first rest line)
 
-counted_more : (ways : Conversion) (a : Account) (ds : List Data) (d : Data)
-    → account_from ways a (ds ++ d ∷ []) ≡ account_with ways (account_from ways a ds) d
-counted_more ways a [] d = refl
-counted_more ways a (e ∷ ds) d = counted_more ways (account_with ways a e) ds d
+counted_more : (ways : Conversion) (sites : List Site) (a : Account) (ds : List Data) (d : Data)
+    → account_from ways sites a (ds ++ d ∷ []) ≡ account_with ways sites (account_from ways sites a ds) d
+counted_more ways sites a [] d = refl
+counted_more ways sites a (e ∷ ds) d = counted_more ways sites (account_with ways sites a e) ds d
 
 -- a line more is counted
 pub lines_counted : (a : Account) (ds : List Data) (d : Data) → with_lines a (ds ++ d ∷ []) ≡ with_line (with_lines a ds) d
@@ -44,41 +45,41 @@ account_pushed a old new taken d counted is =
     is ∙ ap (λ b. with_line b (view d)) counted ∙ sym (ap (with_lines a) (map_push view taken d) ∙ lines_counted a (map view taken) (view d))
 
 -- a document more
-pub document_more : (ways : Conversion) (pieces : List Piece) (d : Data) (old new : Converted)
-    → ((ds : List Data) → AreLinesOf ds (string_bytes old.lines) → AreLinesOf (ds ++ in_light_parts (as_asked ways d)) (string_bytes new.lines))
-    → new.refused.items ≡ old.refused.items → new.account ≡ account_with ways old.account d
-    → AreConverted ways pieces old → AreConverted ways (pieces ++ Ok d ∷ []) new
-document_more ways pieces d old new lines same account are =
+pub document_more : (ways : Conversion) (sites : List Site) (pieces : List Piece) (d : Data) (old new : Converted)
+    → ((ds : List Data) → AreLinesOf ds (string_bytes old.lines) → AreLinesOf (ds ++ in_light_parts (as_asked ways sites d)) (string_bytes new.lines))
+    → new.refused.items ≡ old.refused.items → new.account ≡ account_with ways sites old.account d
+    → AreConverted ways sites pieces old → AreConverted ways sites (pieces ++ Ok d ∷ []) new
+document_more ways sites pieces d old new lines same account are =
     let before = flat_map document_at pieces in
     let found : flat_map document_at (pieces ++ Ok d ∷ []) ≡ before ++ d ∷ [] = flat_map-append document_at pieces (Ok d ∷ []) in
-    let written : documents_of ways (pieces ++ Ok d ∷ []) ≡ documents_of ways pieces ++ in_light_parts (as_asked ways d) =
-    ap (λ ds. flat_map in_light_parts (map (as_asked ways) ds)) found
-    ∙ ap (flat_map in_light_parts) (map-append (as_asked ways) before (d ∷ []))
-    ∙ flat_map-append in_light_parts (map (as_asked ways) before) (as_asked ways d ∷ [])
-    ∙ ap (λ ds. documents_of ways pieces ++ ds) (append-nil (in_light_parts (as_asked ways d))) in
+    let written : documents_of ways sites (pieces ++ Ok d ∷ []) ≡ documents_of ways sites pieces ++ in_light_parts (as_asked ways sites d) =
+    ap (λ ds. flat_map in_light_parts (map (as_asked ways sites) ds)) found
+    ∙ ap (flat_map in_light_parts) (map-append (as_asked ways sites) before (d ∷ []))
+    ∙ flat_map-append in_light_parts (map (as_asked ways sites) before) (as_asked ways sites d ∷ [])
+    ∙ ap (λ ds. documents_of ways sites pieces ++ ds) (append-nil (in_light_parts (as_asked ways sites d))) in
     record {
-      written = subst (λ ds. AreLinesOf ds (string_bytes new.lines)) (sym written) (lines (documents_of ways pieces) are.written);
+      written = subst (λ ds. AreLinesOf ds (string_bytes new.lines)) (sym written) (lines (documents_of ways sites pieces) are.written);
       told = same ∙ are.told ∙ sym (flat_map-append refused_at pieces (Ok d ∷ []) ∙ append-nil (refusals_of pieces));
-      counted = account ∙ ap (λ a. account_with ways a d) are.counted ∙ sym (ap (account_from ways none_yet) found ∙ counted_more ways none_yet before d);
+      counted = account ∙ ap (λ a. account_with ways sites a d) are.counted ∙ sym (ap (account_from ways sites none_yet) found ∙ counted_more ways sites none_yet before d);
     }
 
 -- what is none more
-pub refused_more : (ways : Conversion) (pieces : List Piece) (refused : Refused) (old new : Converted)
+pub refused_more : (ways : Conversion) (sites : List Site) (pieces : List Piece) (refused : Refused) (old new : Converted)
     → string_bytes new.lines ≡ string_bytes old.lines → new.refused.items ≡ old.refused.items ++ refused ∷ [] → new.account ≡ old.account
-    → AreConverted ways pieces old → AreConverted ways (pieces ++ Err refused ∷ []) new
-refused_more ways pieces refused old new same told account are =
+    → AreConverted ways sites pieces old → AreConverted ways sites (pieces ++ Err refused ∷ []) new
+refused_more ways sites pieces refused old new same told account are =
     let found : flat_map document_at (pieces ++ Err refused ∷ []) ≡ flat_map document_at pieces =
     flat_map-append document_at pieces (Err refused ∷ []) ∙ append-nil (flat_map document_at pieces) in
     record {
-      written = subst (λ ls. AreLinesOf (documents_of ways (pieces ++ Err refused ∷ [])) ls) (sym same)
-          (subst (λ ds. AreLinesOf (flat_map in_light_parts (map (as_asked ways) ds)) (string_bytes old.lines)) (sym found) are.written);
+      written = subst (λ ls. AreLinesOf (documents_of ways sites (pieces ++ Err refused ∷ [])) ls) (sym same)
+          (subst (λ ds. AreLinesOf (flat_map in_light_parts (map (as_asked ways sites) ds)) (string_bytes old.lines)) (sym found) are.written);
       told = told ∙ ap (λ rs. rs ++ refused ∷ []) are.told ∙ sym (flat_map-append refused_at pieces (Err refused ∷ []));
-      counted = account ∙ are.counted ∙ sym (ap (account_from ways none_yet) found);
+      counted = account ∙ are.counted ∙ sym (ap (account_from ways sites none_yet) found);
     }
 
 -- nothing yet
-pub none_converted : (ways : Conversion) (new : Converted) → string_bytes new.lines ≡ [] → new.refused.items ≡ [] → new.account ≡ none_yet → AreConverted ways [] new
-none_converted ways new lines told account = record { written = lines; told = told; counted = account }
+pub none_converted : (ways : Conversion) (sites : List Site) (new : Converted) → string_bytes new.lines ≡ [] → new.refused.items ≡ [] → new.account ≡ none_yet → AreConverted ways sites [] new
+none_converted ways sites new lines told account = record { written = lines; told = told; counted = account }
 
 -- ---- the documents of a value
 
@@ -107,16 +108,16 @@ module _ {A : Type 0} (all taken rest after : List A) (x : A) (left : all ≡ ta
 -- ---- lines
 
 -- so many were done, and those of the rest are all
-pub record AreDone (ways : Conversion) (lines rest : List (List ℕ)) (number : ℕ) (converted : Converted) : Type 0 where
+pub record AreDone (ways : Conversion) (sites : List Site) (lines rest : List (List ℕ)) (number : ℕ) (converted : Converted) : Type 0 where
   pub done : List Piece
-  pub are : AreConverted ways done converted
+  pub are : AreConverted ways sites done converted
   pub all : done ++ pieces_from number rest ≡ pieces_from 1 lines
 
-pub line_done : (ways : Conversion) (lines rest more : List (List ℕ)) (number later : ℕ) (line : List ℕ) (old new : Converted)
+pub line_done : (ways : Conversion) (sites : List Site) (lines rest more : List (List ℕ)) (number later : ℕ) (line : List ℕ) (old new : Converted)
     → rest ≡ line ∷ more → later ≡ number + 1
-    → ((pieces : List Piece) → AreConverted ways pieces old → AreConverted ways (pieces ++ line_pieces number line) new)
-    → AreDone ways lines rest number old → AreDone ways lines more later new
-line_done ways lines rest more number later line old new is next one done = record {
+    → ((pieces : List Piece) → AreConverted ways sites pieces old → AreConverted ways sites (pieces ++ line_pieces number line) new)
+    → AreDone ways sites lines rest number old → AreDone ways sites lines more later new
+line_done ways sites lines rest more number later line old new is next one done = record {
   done = done.done ++ line_pieces number line;
   are = one done.done done.are;
   all =
@@ -126,22 +127,22 @@ line_done ways lines rest more number later line old new is next one done = reco
       ∙ done.all;
 }
 
-pub none_begins : (ways : Conversion) (lines : List (List ℕ)) (refused : Refused) (new : Converted) → begins lines ≡ false → refused ≡ no_value 0
-    → AreConverted ways (Err refused ∷ []) new → AreConverted ways (by_lines lines) new
-none_begins ways lines refused new none is are =
-    subst (λ ps. AreConverted ways ps new)
+pub none_begins : (ways : Conversion) (sites : List Site) (lines : List (List ℕ)) (refused : Refused) (new : Converted) → begins lines ≡ false → refused ≡ no_value 0
+    → AreConverted ways sites (Err refused ∷ []) new → AreConverted ways sites (by_lines lines) new
+none_begins ways sites lines refused new none is are =
+    subst (λ ps. AreConverted ways sites ps new)
     (ap (λ (r : Refused). Err r ∷ []) is ∙ sym (ap (λ (b : Bool). if b then pieces_from 1 lines else Err (no_value 0) ∷ []) none)) are
 
-pub all_done : (ways : Conversion) (lines : List (List ℕ)) (number : ℕ) (new : Converted) → begins lines ≡ true → AreDone ways lines [] number new
-    → AreConverted ways (by_lines lines) new
-all_done ways lines number new some done =
-    subst (λ ps. AreConverted ways ps new)
+pub all_done : (ways : Conversion) (sites : List Site) (lines : List (List ℕ)) (number : ℕ) (new : Converted) → begins lines ≡ true → AreDone ways sites lines [] number new
+    → AreConverted ways sites (by_lines lines) new
+all_done ways sites lines number new some done =
+    subst (λ ps. AreConverted ways sites ps new)
     (sym (append-nil done.done) ∙ done.all ∙ sym (ap (λ (b : Bool). if b then pieces_from 1 lines else Err (no_value 0) ∷ []) some)) done.are
 
-pub whole_text : (ways : Conversion) (text : List ℕ) (d : Data) (new : Converted) → Some d ≡ value_of (unmarked text)
-    → AreConverted ways (pieces_at 0 (Some d)) new → AreConverted ways (pieces_of text) new
-whole_text ways text d new is are = subst (λ o. AreConverted ways (whole_or_lines (unmarked text) o) new) is are
+pub whole_text : (ways : Conversion) (sites : List Site) (text : List ℕ) (d : Data) (new : Converted) → Some d ≡ value_of (unmarked text)
+    → AreConverted ways sites (pieces_at 0 (Some d)) new → AreConverted ways sites (pieces_of text) new
+whole_text ways sites text d new is are = subst (λ o. AreConverted ways sites (whole_or_lines (unmarked text) o) new) is are
 
-pub text_by_lines : (ways : Conversion) (text : List ℕ) (new : Converted) → None ≡ value_of (unmarked text)
-    → AreConverted ways (by_lines (lines_of (unmarked text))) new → AreConverted ways (pieces_of text) new
-text_by_lines ways text new is are = subst (λ o. AreConverted ways (whole_or_lines (unmarked text) o) new) is are
+pub text_by_lines : (ways : Conversion) (sites : List Site) (text : List ℕ) (new : Converted) → None ≡ value_of (unmarked text)
+    → AreConverted ways sites (by_lines (lines_of (unmarked text))) new → AreConverted ways sites (pieces_of text) new
+text_by_lines ways sites text new is are = subst (λ o. AreConverted ways sites (whole_or_lines (unmarked text) o) new) is are

@@ -13,7 +13,7 @@ use Rattle.document_convert.specs.EachEvent.{with_each}
 use Rattle.document_convert.specs.EachLaws.{ChangesEach}
 use Rattle.document_convert.proofs.Around.{around_type}
 use Rattle.document_convert.proofs.Bare.{event_type, list_of_itself}
-use Rattle.document_convert.proofs.Lists.{items_back}
+use Rattle.document_convert.proofs.Lists.{items_back, listed_back}
 use Rattle.document_convert.proofs.Members.{other_member}
 use Rattle.document_convert.proofs.NoLots.{alone_list, both_none, its_list}
 use Rattle.document_convert.proofs.Settled.{is_document}
@@ -141,6 +141,52 @@ module _ (changes : Data → Bool) (change : Data → Data) (stays : (d : Data) 
       by : (b : Bool) → is_text is_document (type_text d) ≡ b → turned d ≡ change d
       by true named = absurd (other (its_type d named))
       by false none = alone d none
+
+  -- ---- what stays
+
+  its_events : (d : Data) (items : Items) → is_text is_document (type_text d) ≡ true → listed d ≡ Some items → event_list d ≡ Ok items
+  unfolding event_list
+  its_events d items named list = rw (its_type d named, list) refl
+
+  none_changed : (es : List Data) → ((d : Data) → changes (change d) ≡ false) → list_any changes (map change es) ≡ false
+  none_changed [] settled = refl
+  none_changed (e ∷ es) settled = rw (settled e) (none_changed es settled)
+
+  -- what was changed doesn't change again
+  pub second : ((d : Data) → changes (change d) ≡ false) → (d : Data) → turned (turned d) ≡ turned d
+  second settled d = by (is_text is_document (type_text d)) refl
+    where
+      of_list : (items : Items) (b : Bool) → is_text is_document (type_text d) ≡ true → listed d ≡ Some items → list_any changes (in_order items) ≡ b
+          → turned (turned d) ≡ turned d
+      of_list items true named list some =
+          let found = map change (in_order items) in
+          let is = ap (is_text is_document) (types d) ∙ named in
+          let its = its_list (turned d) (items_of found) (in_place d items (its_events d items named list)) is in
+          none_in_list (turned d) (items_of found) is its (ap (list_any changes) (listed_back found) ∙ none_changed (in_order items) settled)
+      of_list items false named list none = ap turned (none_in_list d items named list none)
+
+      of_document : (o : Option Items) → is_text is_document (type_text d) ≡ true → listed d ≡ o → turned (turned d) ≡ turned d
+      of_document None named list = ap turned (no_list d named list)
+      of_document (Some items) named list = of_list items (list_any changes (in_order items)) named list refl
+
+      by : (b : Bool) → is_text is_document (type_text d) ≡ b → turned (turned d) ≡ turned d
+      by true named = of_document (listed d) named refl
+      by false other =
+          let still = ap (is_text is_document) (type_stays d) ∙ other in
+          ap turned (alone d other) ∙ alone (change d) still ∙ stays (change d) (settled d) ∙ sym (alone d other)
+
+  -- a document stays of which no event changes, and which isn't changed as an event alone
+  pub unchanged : (d : Data) → ((items : Items) → event_list d ≡ Ok items → list_any changes (in_order items) ≡ false)
+      → (is_text is_document (type_text d) ≡ false → change d ≡ d) → turned d ≡ d
+  unchanged d none same = by (is_text is_document (type_text d)) refl
+    where
+      of_document : (o : Option Items) → is_text is_document (type_text d) ≡ true → listed d ≡ o → turned d ≡ d
+      of_document None named list = no_list d named list
+      of_document (Some items) named list = none_in_list d items named list (none items (its_events d items named list))
+
+      by : (b : Bool) → is_text is_document (type_text d) ≡ b → turned d ≡ d
+      by true named = of_document (listed d) named refl
+      by false other = alone d other ∙ same other
 
   pub changes_each : ChangesEach change turned
   changes_each = record { events = in_place; type = types; others = others; alone = bare }

@@ -26,6 +26,10 @@ pub mod ConvertLemmas
 pub mod UnitLaws
 pub mod EachLaws
 pub mod LinkedLaws
+pub mod PlaceLemmas
+pub mod PlacesFound
+pub mod PlacedLaws
+pub mod TracedLaws
 pub mod ErrorLaws
 pub mod UnitKeys
 pub mod LinkPaths

@@ -42,7 +42,7 @@ quantities d = elements_from 0 (listed_events d)
 -- ---- all documents
 
 abbrev pub none_yet : Account
-none_yet = record { written = 0; events = 0; links = 0; lots = 0; derived = 0; untied = 0; parted = 0; errors = 0; left = 0 }
+none_yet = record { written = 0; events = 0; links = 0; lots = 0; derived = 0; untied = 0; parted = 0; errors = 0; places = 0; places_of_several = 0; left = 0 }
 
 -- how many events a document has
 abbrev pub event_count : Data → ℕ
@@ -65,6 +65,8 @@ with_document a counts d = record {
   untied = up a.untied counts.untied;
   parted = up a.parted counts.parted;
   errors = up a.errors counts.errors;
+  places = up a.places counts.places;
+  places_of_several = up a.places_of_several counts.places_of_several;
   left = up a.left (count_by has_quantities (listed_events d));
 }
 
@@ -79,6 +81,8 @@ with_line a d = record {
   untied = a.untied;
   parted = a.parted;
   errors = a.errors;
+  places = a.places;
+  places_of_several = a.places_of_several;
   left = a.left;
 }
 

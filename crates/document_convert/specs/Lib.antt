@@ -17,6 +17,9 @@ pub mod Linked
 pub mod DeclaredErrors
 pub mod EachLaws
 pub mod LinkLaws
+pub mod Places
+pub mod Placed
+pub mod PlaceLaws
 pub mod ErrorLaws
 pub mod UnitLaws
 pub mod Texts

@@ -19,6 +19,7 @@ ghost use Rattle.document_convert.specs.Accounts.{
 ghost use Rattle.document_convert.specs.DeclaredErrors.{is_declared};
 ghost use Rattle.document_convert.specs.Links.{link_of};
 ghost use Rattle.document_convert.specs.Parted.{has_parts};
+ghost use Rattle.document_convert.specs.Placed.{asked_of, has_destination};
 ghost use Rattle.document_convert.specs.Quantities.{has_quantities};
 ghost use Rattle.document_convert.specs.Respelled.{spells_otherwise_by};
 ghost use Rattle.document_convert.specs.UnitLots.{is_untied};
@@ -26,10 +27,12 @@ ghost use Rattle.document_convert.specs.UnitLots.{is_untied};
 use crate::declared_errors::is_declared;
 use crate::event_lists::events_of;
 use crate::parted::has_parts;
+use crate::placed::{Question, has_destination};
 use crate::quantities::has_quantities;
 use crate::respelling::{Speller, spells_otherwise_by};
 use crate::types::{member_named, type_text};
 use crate::unit_lots::is_untied;
+use event_json::Sites;
 use serde_json::{Value, json};
 use std::alloc::{AllocError, Global};
 
@@ -54,6 +57,10 @@ pub struct Account {
     pub parted: u64,
     /// The events that had been declared to be errors, and were kept without that.
     pub errors: u64,
+    /// The events with destinations that are addresses of listed sites now.
+    pub places: u64,
+    /// The events with a destination that names the GLN of several listed sites, and stayed.
+    pub places_of_several: u64,
     /// The events that still have quantities, with which a capture refuses them.
     pub left: u64,
 }
@@ -69,6 +76,10 @@ pub(crate) struct Counts {
     pub(crate) errors: u64,
     /// Those with units that become links.
     pub(crate) links: u64,
+    /// Those with destinations that become addresses.
+    pub(crate) places: u64,
+    /// Those with a destination that names the GLN of several listed sites, and stays.
+    pub(crate) places_of_several: u64,
     /// Those with more lots of units than are tied to these.
     pub(crate) untied: u64,
     /// Those that become parts.
@@ -89,6 +100,8 @@ impl Account {
             untied: 0,
             parted: 0,
             errors: 0,
+            places: 0,
+            places_of_several: 0,
             left: 0,
         }
     }
@@ -104,12 +117,16 @@ impl Account {
             untied: self.untied.saturating_add(more.untied),
             parted: self.parted.saturating_add(more.parted),
             errors: self.errors.saturating_add(more.errors),
+            places: self.places.saturating_add(more.places),
+            places_of_several: self
+                .places_of_several
+                .saturating_add(more.places_of_several),
             left: self.left.saturating_add(more.left),
         }
     }
 
-    /// The line that tells it, as
-    /// `note: written 1 events 3 links 0 lots 2 derived 1 untied 0 parted 0 errors 0 left 0`, with its LF.
+    /// The line that tells it, as `note: written 1 events 3 links 0 lots 2 derived 1 untied 0 parted 0 errors 0 places 0
+    /// places_of_several 0 left 0`, with its LF.
     ///
     /// # Errors
     /// Where memory runs out.
@@ -123,12 +140,17 @@ impl Account {
             untied,
             parted,
             errors,
+            places,
+            places_of_several,
             left,
         } = self;
         let mut text = format!(in alloc; "note: written {written} events {events}")?;
         text.push_str(format!(in alloc; " links {links} lots {lots} derived {derived}")?.as_str())?;
         text.push_str(format!(in alloc;
-            " untied {untied} parted {parted} errors {errors} left {left}\n"
+            " untied {untied} parted {parted} errors {errors} places {places}"
+        )?.as_str())?;
+        text.push_str(format!(in alloc;
+            " places_of_several {places_of_several} left {left}\n"
         )?.as_str())?;
         Ok(text)
     }
@@ -139,7 +161,7 @@ impl Account {
     /// Where memory runs out.
     pub fn json(self, alloc: Global) -> Result<String, AllocError> {
         let account =
-            json!(in alloc; {"derived": self.derived, "errors": self.errors, "events": self.events, "left": self.left, "links": self.links, "lots": self.lots, "parted": self.parted, "untied": self.untied, "written": self.written})?;
+            json!(in alloc; {"derived": self.derived, "errors": self.errors, "events": self.events, "left": self.left, "links": self.links, "lots": self.lots, "parted": self.parted, "places": self.places, "places_of_several": self.places_of_several, "untied": self.untied, "written": self.written})?;
         let mut line = json!(in alloc; {"account": account})?.to_string(alloc)?;
         line.push('\n')?;
         Ok(line)
@@ -161,6 +183,10 @@ impl Account {
             untied: self.untied.saturating_add(counts.untied),
             parted: self.parted.saturating_add(counts.parted),
             errors: self.errors.saturating_add(counts.errors),
+            places: self.places.saturating_add(counts.places),
+            places_of_several: self
+                .places_of_several
+                .saturating_add(counts.places_of_several),
             left: self.left.saturating_add(left(events)),
         }
     }
@@ -178,6 +204,8 @@ impl Account {
             untied: self.untied,
             parted: self.parted,
             errors: self.errors,
+            places: self.places,
+            places_of_several: self.places_of_several,
             left: self.left,
         }
     }
@@ -229,6 +257,44 @@ fn linked(alloc: Global, events: &[Value]) -> Result<u64, AllocError>
     let mut count: u64 = 0;
     for event in events.iter() {
         if spells_otherwise_by(alloc, Speller::Links, event)? {
+            count += 1;
+        }
+    }
+    Ok(count)
+}
+
+/// How many events of a document have a destination whose text is as it is asked, where that is asked for.
+pub(crate) fn places_of(
+    alloc: Global,
+    sites: &Sites,
+    question: Question,
+    document: &Value,
+    places: bool,
+) -> Result<u64, AllocError>
+    ensures { IfOk result (λ count. count
+        ≡ count_if places (has_destination (asked_of sites.now question)) (view document.now)) }
+{
+    if places {
+        placed(alloc, sites, question, events_of(document))
+    } else {
+        Ok(0)
+    }
+}
+
+/// How many of these events have.
+fn placed(
+    alloc: Global,
+    sites: &Sites,
+    question: Question,
+    events: &[Value],
+) -> Result<u64, AllocError>
+    ensures { IfOk result (λ count. count
+        ≡ count_by (has_destination (asked_of sites.now question))
+        (in_order (items_view events.now))) }
+{
+    let mut count: u64 = 0;
+    for event in events.iter() {
+        if has_destination(alloc, sites, question, event)? {
             count += 1;
         }
     }

@@ -18,6 +18,7 @@ ghost use Rattle.std.specs.Prelude.{
   string_bytes,
 };
 ghost use Rattle.std.specs.List.{enumerate_from};
+ghost use Rattle.event_json.specs.Sites.{Site};
 ghost use Rattle.serde_json.specs.Data.{Data};
 ghost use Rattle.serde_json.specs.View.{view};
 ghost use Rattle.document_convert.specs.Accounts.{with_lines};
@@ -33,6 +34,7 @@ ghost use Rattle.document_convert.specs.DeclaredErrors.{document_with_errors_kep
 ghost use Rattle.document_convert.specs.LightParts.{is_light_document};
 ghost use Rattle.document_convert.specs.Linked.{document_with_links};
 ghost use Rattle.document_convert.specs.Lotted.{document_with_lots};
+ghost use Rattle.document_convert.specs.Placed.{document_with_places};
 ghost use Rattle.document_convert.specs.Texts.{
   Piece,
   begins,
@@ -47,7 +49,7 @@ ghost use Rattle.document_convert.specs.Texts.{
 };
 
 use crate::accounts::{
-    Account, Counts, errors_of, event_count, links_of, parted_of, quantities, untied_of,
+    Account, Counts, errors_of, event_count, links_of, parted_of, places_of, quantities, untied_of,
 };
 use crate::declared_errors::document_with_errors_kept;
 use crate::document_parts::{alone, in_parts};
@@ -55,8 +57,9 @@ use crate::documents::documents_in;
 use crate::light_parts::is_light_document;
 use crate::linked::document_with_links;
 use crate::lotted::document_with_lots;
+use crate::placed::{Question, document_with_places};
 use crate::texts::{is_blank, lines_of, unmarked, value_of};
-use event_json::{DocFault, DocFaultKind, DocField};
+use event_json::{DocFault, DocFaultKind, DocField, Sites};
 use serde_json::Value;
 use std::alloc::{AllocError, Global};
 
@@ -70,6 +73,9 @@ pub struct Conversion {
     /// Events that were declared to be errors are kept as if they weren't, as
     /// [`document_with_errors_kept`](crate::document_with_errors_kept) has it.
     pub errors: bool,
+    /// Destinations are addresses of the sites that are given, as
+    /// [`document_with_places`](crate::document_with_places) has it.
+    pub places: bool,
 }
 
 /// What stands in a text in the place of a document, and is none.
@@ -94,9 +100,12 @@ pub struct Converted {
 /// Turns a text as it is found into documents that are captured, one a line: each as
 /// [`document_in`](crate::document_in) finds it, and where it is asked for with the events that were declared to be
 /// errors, as [`document_with_errors_kept`](crate::document_with_errors_kept) has it, then with its units as links, as
-/// [`document_with_links`](crate::document_with_links) has it, and then with its lots, as
+/// [`document_with_links`](crate::document_with_links) has it, then with its destinations as addresses of these sites,
+/// as [`document_with_places`](crate::document_with_places) has it, and then with its lots, as
 /// [`document_with_lots`](crate::document_with_lots) has it; and then in the documents of which a capture takes the
 /// lists, as [`in_parts`](crate::in_parts) has it.
+///
+/// The sites are only looked at where places are asked for; the list may be empty.
 ///
 /// A document of which the parts would repeat much stays as it is: one with an event that has parts, where what stands
 /// beside its long lists weighs over 10,000, or where it is a transformation without an identifier that has over 10
@@ -112,7 +121,12 @@ pub struct Converted {
 ///
 /// # Errors
 /// Where memory runs out.
-pub fn convert(alloc: Global, text: &[u8], ways: Conversion) -> Result<Converted, AllocError>
+pub fn convert(
+    alloc: Global,
+    text: &[u8],
+    ways: Conversion,
+    sites: &Sites,
+) -> Result<Converted, AllocError>
     // The lines are those of the documents of the text, in order, and nothing else: one for each, or one for each 1,000
     // events of one with more, where an event with a list of more than 1,000 items counts as its parts. One whose parts
     // would repeat much is one line as it is: where what stands beside a long list, or beside the body of what becomes
@@ -120,28 +134,35 @@ pub fn convert(alloc: Global, text: &[u8], ways: Conversion) -> Result<Converted
     // one value, or has one in each line that isn't blank, where the first of them is one. A line is JSON without a
     // space, and is read back as its document's value. What is no document is told, in order, by its line and its place
     // in its array.
-    // Where that is asked for, an event that was declared to be an error is there without its declaration.
+    // Where that is asked for, an event that was declared to be an error is there without its declaration, and a
+    // destination of an ObjectEvent that names the place of a listed site is there as an address of this site.
     // It is counted how many documents and events were written, of how many events units became links, how many
     // quantities became lots, how many events were derived, how many have too many lots for that, how many became
-    // parts, of how many the declaration went, and how many still have quantities.
+    // parts, of how many the declaration went, of how many a destination became an address, how many have one that
+    // names the GLN of several sites, and how many still have quantities.
     // Not covered: a document that nests more than 127 deep isn't read back; a capture refuses one with long lists that
     // stays as it is; how the account is printed, and added up over several texts.
-    ensures { IfOk result (IsConverted ways text.now) }
+    ensures { IfOk result (IsConverted ways sites.now text.now) }
 {
     let text = unmarked(text);
     match value_of(alloc, text)? {
         Some(value) => {
             let mut converted = Converted::new(alloc);
-            converted.push_value(alloc, 0, value, ways)?;
+            converted.push_value(alloc, 0, value, ways, sites)?;
             Ok(converted)
         }
-        None => by_lines(alloc, text, ways),
+        None => by_lines(alloc, text, ways, sites),
     }
 }
 
 /// What comes of a text that isn't one value.
-fn by_lines(alloc: Global, text: &[u8], ways: Conversion) -> Result<Converted, AllocError>
-    ensures { IfOk result (AreConverted ways (by_lines (lines_of text.now))) }
+fn by_lines(
+    alloc: Global,
+    text: &[u8],
+    ways: Conversion,
+    sites: &Sites,
+) -> Result<Converted, AllocError>
+    ensures { IfOk result (AreConverted ways sites.now (by_lines (lines_of text.now))) }
 {
     let lines = lines_of(alloc, text)?;
     let lines = lines.as_slice();
@@ -151,7 +172,7 @@ fn by_lines(alloc: Global, text: &[u8], ways: Conversion) -> Result<Converted, A
         return Ok(converted);
     }
     for (place, line) in lines.iter().enumerate() {
-        converted.push_line(alloc, place as u64 + 1, line, ways)?;
+        converted.push_line(alloc, place as u64 + 1, line, ways, sites)?;
     }
     Ok(converted)
 }
@@ -215,6 +236,23 @@ fn linked_if(alloc: Global, document: Value, links: bool) -> Result<Value, Alloc
     }
 }
 
+/// A document with its destinations as addresses, or as it is.
+fn placed_if(
+    alloc: Global,
+    document: Value,
+    sites: &Sites,
+    places: bool,
+) -> Result<Value, AllocError>
+    ensures { IfOk result
+        (λ d. view d ≡ if_asked places (document_with_places sites.now) (view document)) }
+{
+    if places {
+        document_with_places(alloc, sites, document)
+    } else {
+        Ok(document)
+    }
+}
+
 /// A document with its lots, or as it is.
 fn lotted_if(alloc: Global, document: Value, lots: bool) -> Result<Value, AllocError>
     ensures { IfOk result (λ d. view d ≡ if_asked lots document_with_lots (view document)) }
@@ -241,7 +279,7 @@ fn parts_if(alloc: Global, document: Value, light: bool) -> Result<Vec<Value>, A
 impl Converted {
     /// Nothing yet.
     fn new(alloc: Global) -> Converted
-        ensures { (ways : Conversion) → AreConverted ways [] result }
+        ensures { (ways : Conversion) (sites : List Site) → AreConverted ways sites [] result }
     {
         Converted {
             lines: String::new(alloc),
@@ -257,15 +295,16 @@ impl Converted {
         number: u64,
         line: &[u8],
         ways: Conversion,
+        sites: &Sites,
     ) -> Result<(), AllocError>
-        ensures { OnOk result ((pieces : List Piece) → AreConverted ways pieces self.old
-            → AreConverted ways (pieces ++ line_pieces number line.now) self.new) }
+        ensures { OnOk result ((pieces : List Piece) → AreConverted ways sites.now pieces self.old
+            → AreConverted ways sites.now (pieces ++ line_pieces number line.now) self.new) }
     {
         if is_blank(line) {
             return Ok(());
         }
         match value_of(alloc, line)? {
-            Some(value) => self.push_value(alloc, number, value, ways),
+            Some(value) => self.push_value(alloc, number, value, ways, sites),
             None => self.push_refused(no_value(number)),
         }
     }
@@ -277,13 +316,15 @@ impl Converted {
         line: u64,
         value: Value,
         ways: Conversion,
+        sites: &Sites,
     ) -> Result<(), AllocError>
-        ensures { OnOk result ((pieces : List Piece) → AreConverted ways pieces self.old
-            → AreConverted ways (pieces ++ pieces_at line (Some (view value))) self.new) }
+        ensures { OnOk result ((pieces : List Piece) → AreConverted ways sites.now pieces self.old
+            → AreConverted ways sites.now (pieces ++ pieces_at line (Some (view value)))
+            self.new) }
     {
         let first = first_number(&value);
         let documents = documents_in(alloc, value)?;
-        self.push_all(alloc, line, first, documents, ways)
+        self.push_all(alloc, line, first, documents, ways, sites)
     }
 
     /// Adds the documents of a value, of which the first has this number.
@@ -294,15 +335,16 @@ impl Converted {
         first: u64,
         documents: Vec<Option<Value>>,
         ways: Conversion,
+        sites: &Sites,
     ) -> Result<(), AllocError>
         requires { first ≤ 1 }
-        ensures { OnOk result ((pieces : List Piece) → AreConverted ways pieces self.old
-            → AreConverted ways (pieces ++ map (piece_of line) (enumerate_from first
+        ensures { OnOk result ((pieces : List Piece) → AreConverted ways sites.now pieces self.old
+            → AreConverted ways sites.now (pieces ++ map (piece_of line) (enumerate_from first
             (map (option_map view) documents.items))) self.new) }
     {
         let mut number = first;
         for document in documents {
-            self.push(alloc, line, number, document, ways)?;
+            self.push(alloc, line, number, document, ways, sites)?;
             number += 1;
         }
         Ok(())
@@ -316,22 +358,23 @@ impl Converted {
         number: u64,
         document: Option<Value>,
         ways: Conversion,
+        sites: &Sites,
     ) -> Result<(), AllocError>
-        ensures { OnOk result ((pieces : List Piece) → AreConverted ways pieces self.old
-            → AreConverted ways (pieces ++ piece_of line (number, option_map view document) ∷ [])
-            self.new) }
+        ensures { OnOk result ((pieces : List Piece) → AreConverted ways sites.now pieces self.old
+            → AreConverted ways sites.now
+            (pieces ++ piece_of line (number, option_map view document) ∷ []) self.new) }
     {
         match document {
-            Some(document) => self.push_document(alloc, document, ways),
+            Some(document) => self.push_document(alloc, document, ways, sites),
             None => self.push_refused(no_document(line, number)),
         }
     }
 
     /// Adds what is no document.
     fn push_refused(&mut self, refused: Refused) -> Result<(), AllocError>
-        ensures { OnOk result ((ways : Conversion) (pieces : List Piece)
-            → AreConverted ways pieces self.old
-            → AreConverted ways (pieces ++ Err refused ∷ []) self.new) }
+        ensures { OnOk result ((ways : Conversion) (sites : List Site) (pieces : List Piece)
+            → AreConverted ways sites pieces self.old
+            → AreConverted ways sites (pieces ++ Err refused ∷ []) self.new) }
     {
         self.refused.push(refused)?;
         Ok(())
@@ -343,23 +386,29 @@ impl Converted {
         alloc: Global,
         document: Value,
         ways: Conversion,
+        sites: &Sites,
     ) -> Result<(), AllocError>
-        ensures { OnOk result ((pieces : List Piece) → AreConverted ways pieces self.old
-            → AreConverted ways (pieces ++ Ok (view document) ∷ []) self.new) }
+        ensures { OnOk result ((pieces : List Piece) → AreConverted ways sites.now pieces self.old
+            → AreConverted ways sites.now (pieces ++ Ok (view document) ∷ []) self.new) }
     {
         let (had, came) = (quantities(&document), event_count(&document));
         let errors = errors_of(&document, ways.errors);
         let kept = kept_if(alloc, document, ways.errors)?;
         let links = links_of(alloc, &kept, ways.links)?;
         let linked = linked_if(alloc, kept, ways.links)?;
-        let untied = untied_of(alloc, &linked, ways.lots)?;
-        let asked = lotted_if(alloc, linked, ways.lots)?;
+        let places = places_of(alloc, sites, Question::Otherwise, &linked, ways.places)?;
+        let places_of_several = places_of(alloc, sites, Question::Several, &linked, ways.places)?;
+        let placed = placed_if(alloc, linked, sites, ways.places)?;
+        let untied = untied_of(alloc, &placed, ways.lots)?;
+        let asked = lotted_if(alloc, placed, ways.lots)?;
         let light = is_light_document(alloc, &asked)?;
         let counts = Counts {
             had,
             came,
             errors,
             links,
+            places,
+            places_of_several,
             untied,
             parted: parted_of(&asked, light),
         };

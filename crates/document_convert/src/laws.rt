@@ -3,6 +3,7 @@
 ghost use Rattle.document_convert.specs.ErrorLaws.{DeclarationsGo, DocumentsAreKept, OthersStay, ReadAsSaid};
 ghost use Rattle.document_convert.specs.LinkLaws.{DocumentsAreLinked, EventsAreLinked, LinksAreUnits, TextsAreLinked, UnitsBecomeLinks, UnitsStayApart};
 ghost use Rattle.document_convert.specs.LotLaws.{EventsAreRespelled, LotsAreMoved, LotsAreNamed, LotsStayApart, NothingGetsLost, ReadStaysWithLots, SpelledAreLots, SpellingsBecomeOne, TextsAreRespelled, WithoutStays};
+ghost use Rattle.document_convert.specs.PlaceLaws.{AddressesStay, DestinationsArePlaced, DocumentsArePlaced, EventsArePlaced, OthersHaveNone, PlacedStay, PlacesAreFound, PlacesAreListed, SecondPlacesNothing, ShipmentsAreTraced};
 ghost use Rattle.document_convert.specs.UnitLaws.{LotsAreMade, LotsAreNumbered, NothingIsInvented, UnitsAreLed, WithoutLotsAsBefore};
 ghost use Rattle.document_convert.specs.Laws.{EventsAreKept, HoldersAreDocuments, HoldersAreThese, MembersAreKept, ReadIsUnchanged, SecondChangesNothing, SurroundingsAreKept, TypesAreKept, TypesAreThese, TypesAreTold};
 
@@ -139,4 +140,30 @@ pub fn errors_are_kept()
     ensures events { DeclarationsGo }
     ensures read { ReadAsSaid }
     ensures documents { DocumentsAreKept }
+{}
+
+/// What the text of a destination becomes is an address of a listed site that names the same place: of the one site
+/// that has this place, else of the one that has its GLN. An address of one stays, and so does a text that names the
+/// place of none, or the GLN of several.
+pub fn places_are_listed()
+    ensures listed { PlacesAreListed }
+    ensures found { PlacesAreFound }
+    ensures addresses { AddressesStay }
+    ensures others { OthersHaveNone }
+{}
+
+/// A destination of an ObjectEvent becomes the address of its place, in its place, so that a capture reads this address,
+/// which is a traced site's. All else stays: each event of a document is there, in order, and no other.
+pub fn destinations_are_placed()
+    ensures texts { DestinationsArePlaced }
+    ensures events { EventsArePlaced }
+    ensures read { ShipmentsAreTraced }
+    ensures documents { DocumentsArePlaced }
+{}
+
+/// A document stays whose destinations are addresses of listed sites or name the place of none, and so does what was
+/// converted.
+pub fn placed_stay()
+    ensures documents { PlacedStay }
+    ensures second { SecondPlacesNothing }
 {}

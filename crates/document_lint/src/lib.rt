@@ -22,5 +22,6 @@ mod unlisted;
 
 pub use findings::{Finding, Lint, Listing, PlaceMember, SkippedType, What};
 pub use linting::lint_document;
+pub use locations::location_of;
 pub use splitting::{Split, split_document};
 pub use totals::LintTotals;

@@ -10,8 +10,17 @@ use crate::near_misses::{behind_scheme, path_of};
 use std::alloc::{AllocError, Global};
 use std::mem;
 
-/// The digits of the GLN of the location that a text names, without its check digit.
-pub(crate) fn location_of(alloc: Global, text: &str) -> Result<Option<Vec<u8>>, AllocError>
+/// The digits of the GLN of the location that a text names, without its check digit, which an EPC URI leaves out; `None`
+/// where it names none.
+///
+/// A location is named by an EPC URI (SGLN, GS1 EPC Tag Data Standard 2.0), by a Digital Link on any host (GS1 Digital
+/// Link URI syntax, application identifiers 414 and 254), and by the GLN alone. An extension is passed over.
+///
+/// # Errors
+/// Where memory runs out.
+pub fn location_of(alloc: Global, text: &str) -> Result<Option<Vec<u8>>, AllocError>
+    // An EPC URI, whatever its extension, a GLN, and a Digital Link of it on any host, with an extension or without,
+    // name the location of that GLN.
     ensures { IfOk result (λ found. option_map (λ v. v.items) found ≡ location_of text.now) }
 {
     if let Some(location) = uri_location(alloc, text)? {

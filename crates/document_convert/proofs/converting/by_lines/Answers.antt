@@ -8,8 +8,8 @@ returns-then-not-branch c =
     let now : Bor (List ℕ) → List ℕ = λ x. x.now in
     let all : map now c.as_slice-lines.result.now ≡ lines_of c.args.text.now = ap (map now) c.as_slice-lines.ensures.value ∙ c.in_ok-lines.ensures in
     let none : c.in_ok-begins.field-0 ≡ false = search rules in
-    none_begins c.args.ways (lines_of c.args.text.now) c.no_value.result c.push_refused.new.self (sym (ap begins all) ∙ sym c.in_ok-begins.ensures ∙ none) c.no_value.ensures
-    (c.in_ok-push_refused.ensures c.args.ways [] (c.new-converted.ensures c.args.ways))
+    none_begins c.args.ways c.args.sites.now (lines_of c.args.text.now) c.no_value.result c.push_refused.new.self (sym (ap begins all) ∙ sym c.in_ok-begins.ensures ∙ none) c.no_value.ensures
+    (c.in_ok-push_refused.ensures c.args.ways c.args.sites.now [] (c.new-converted.ensures c.args.ways c.args.sites.now))
 
 pub loop-place-init : goal.loop-place-init
-loop-place-init c = record { done = []; are = c.new-converted.ensures c.args.ways; all = refl }
+loop-place-init c = record { done = []; are = c.new-converted.ensures c.args.ways c.args.sites.now; all = refl }

@@ -15,5 +15,7 @@ returns c =
       untied = c.saturating_add-4.ensures i;
       parted = c.saturating_add-5.ensures i;
       errors = c.saturating_add-6.ensures i;
-      left = (c.saturating_add-7.ensures ∙ ap (up c.args.self.left) (c.left.ensures ∙ ap (count_by has_quantities) events)) i;
+      places = c.saturating_add-7.ensures i;
+      places_of_several = c.saturating_add-8.ensures i;
+      left = (c.saturating_add-9.ensures ∙ ap (up c.args.self.left) (c.left.ensures ∙ ap (count_by has_quantities) events)) i;
     }

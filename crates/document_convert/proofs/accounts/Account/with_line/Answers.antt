@@ -13,5 +13,7 @@ returns c =
       untied = c.args.self.untied;
       parted = c.args.self.parted;
       errors = c.args.self.errors;
+      places = c.args.self.places;
+      places_of_several = c.args.self.places_of_several;
       left = c.args.self.left;
     }

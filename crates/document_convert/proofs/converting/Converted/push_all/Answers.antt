@@ -28,6 +28,6 @@ loop-document-preserved c =
     ∙ sym (ap (λ xs. map (piece_of line) (enumerate_from first xs)) (map_push seen taken document) ∙ pieces_more line first (map seen taken) (seen document)) in (
       left_more c.args.documents.items taken (into_iter_items c.loop-document.document-iterator) _ document left c.in-Some.ensures.steps.0,
       omega (arith, count, more),
-      λ pieces are. subst (λ ps. AreConverted c.args.ways ps c.push.new.self) (append_assoc pieces before _ ∙ ap (λ ps. pieces ++ ps) one)
+      λ pieces are. subst (λ ps. AreConverted c.args.ways c.args.sites.now ps c.push.new.self) (append_assoc pieces before _ ∙ ap (λ ps. pieces ++ ps) one)
           (c.in_ok-push.ensures (pieces ++ before) (so_far pieces are)),
     )

@@ -12,5 +12,5 @@ abbrev pub invariant-loop-document : goal.invariant-loop-document
 invariant-loop-document l =
     (l.fn.documents.items ≡ l.yielded ++ into_iter_items l.document-iterator)
     × (l.number ≡ l.fn.first + length l.yielded)
-    × ((pieces : List Piece) → AreConverted l.fn.ways pieces l.initial.self
-    → AreConverted l.fn.ways (pieces ++ map (piece_of l.fn.line) (enumerate_from l.fn.first (map (option_map view) l.yielded))) l.self)
+    × ((pieces : List Piece) → AreConverted l.fn.ways l.sites pieces l.initial.self
+    → AreConverted l.fn.ways l.sites (pieces ++ map (piece_of l.fn.line) (enumerate_from l.fn.first (map (option_map view) l.yielded))) l.self)
