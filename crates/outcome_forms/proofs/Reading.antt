@@ -151,38 +151,15 @@ mutual
   members_shallow n no_members are = omega arith
   members_shallow n (member name d ms) are = let first = tree_shallow n d are.0 in let rest = members_shallow n ms are.1 in omega (arith, first, rest)
 
-read_back : (d : Data) → IsTree 6 d → HasPlainNumbers d → read (compact_text d) ≡ Some d
+read_back : (d : Data) → IsTree 8 d → HasPlainNumbers d → read (compact_text d) ≡ Some d
 read_back d is plain =
-    let shallow = tree_shallow 6 d is in
+    let shallow = tree_shallow 8 d is in
     ap (λ ts. option_and_then of_json (option_and_then (λ p. json.if_last p.0 p.1) (json.value max_depth ts))) (tokens_of d plain)
     ∙ ap (λ v. option_and_then of_json (option_and_then (λ p. json.if_last p.0 p.1) v)) (outline_read (outline d) max_depth (omega (arith, shallow)))
-    ∙ tree_read 6 d is plain
+    ∙ tree_read 8 d is plain
 
-pub all_read : (ds : List Data) → All (IsTree 6) ds → All HasPlainNumbers ds → All (λ d. read (compact_text d) ≡ Some d) ds
+pub all_read : (ds : List Data) → All (IsTree 8) ds → All HasPlainNumbers ds → All (λ d. read (compact_text d) ≡ Some d) ds
 all_read [] are plain = All-nil (λ d. read (compact_text d) ≡ Some d)
 all_read (d ∷ ds) are plain =
-    All-cons (λ e. read (compact_text e) ≡ Some e) d ds (read_back d (All-head (IsTree 6) d ds are) (All-head HasPlainNumbers d ds plain))
-    (all_read ds (All-tail (IsTree 6) d ds are) (All-tail HasPlainNumbers d ds plain))
-
--- ---- deeper ones
-
-mutual
-  pub deeper : (n : ℕ) (d : Data) → IsTree n d → IsTree (suc n) d
-  deeper n null is = tt
-  deeper n (boolean b) is = tt
-  deeper n (number (unsigned k)) is = tt
-  deeper n (number (negative z)) is = tt
-  deeper n (number (float x)) is = absurd is
-  deeper n (string s) is = tt
-  deeper zero (array ds) is = absurd is
-  deeper (suc n) (array ds) is = items_deeper n ds is
-  deeper zero (object ms) is = absurd is
-  deeper (suc n) (object ms) is = (is.0, members_deeper n ms is.1)
-
-  items_deeper : (n : ℕ) (ds : Items) → ItemsAreTrees n ds → ItemsAreTrees (suc n) ds
-  items_deeper n no_items are = tt
-  items_deeper n (item d ds) are = (deeper n d are.0, items_deeper n ds are.1)
-
-  members_deeper : (n : ℕ) (ms : Members) → MembersAreTrees n ms → MembersAreTrees (suc n) ms
-  members_deeper n no_members are = tt
-  members_deeper n (member name d ms) are = (deeper n d are.0, members_deeper n ms are.1)
+    All-cons (λ e. read (compact_text e) ≡ Some e) d ds (read_back d (All-head (IsTree 8) d ds are) (All-head HasPlainNumbers d ds plain))
+    (all_read ds (All-tail (IsTree 8) d ds are) (All-tail HasPlainNumbers d ds plain))

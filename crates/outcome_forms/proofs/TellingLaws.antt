@@ -24,7 +24,6 @@ use Rattle.event_json.specs.declared.site_lists.SitesFault.{SitesFault}
 use Rattle.event_json.specs.declared.site_lists.SitesFault.TheVariants as faults
 use Rattle.frame_core.specs.Numbers.{Message, Recall}
 use Rattle.gap_core.specs.declared.lines.GapLine.{GapLine}
-use Rattle.gap_core.specs.declared.lines.Gaps.{Gaps}
 use Rattle.gap_core.specs.declared.unseen.UnseenItem.{UnseenItem}
 use Rattle.gap_core.specs.declared.untold.UntoldShipment.{UntoldShipment}
 use Rattle.item_spellings.specs.Names.{scan_fault_name}
@@ -42,6 +41,7 @@ use Rattle.report_core.specs.declared.audits.Verdict.{Verdict}
 use Rattle.report_core.specs.declared.audits.Verdict.TheVariants.{Equal, Differs}
 use Rattle.report_core.specs.declared.outside.OutsideShipment.{OutsideShipment}
 use Rattle.report_core.specs.declared.outside_events.OutsideEvent.{OutsideEvent}
+use Rattle.report_core.specs.declared.packing_events.PackingEvent.{PackingEvent}
 use Rattle.report_core.specs.declared.trail_events.CapturedEvent.{CapturedEvent}
 use Rattle.report_core.specs.declared.trail_events.StepEvents.{StepEvents}
 use Rattle.report_core.specs.declared.trail_events.StepEvents.TheVariants as made
@@ -53,8 +53,8 @@ use Rattle.site_core.specs.declared.outcomes.Refusal.{Refusal}
 use Rattle.site_core.specs.declared.outcomes.Refusal.TheVariants as steps
 use Rattle.site_recovery.specs.declared.checking.Misfit.{Misfit}
 use Rattle.trace_core.specs.declared.pairs.Pair.{Pair}
-use Rattle.outcome_forms.specs.Json.{Shown, whole, before, behind, account_json, audited_json, beside_json, covered_json, detail_json, effects_json, engaged_json, event_json, gaps_json, held_json, known_json, left_json, line_members, list_of, misfit_json, missed_json, missed_pair_json, outcome_json, outside_json, packed_json, pair_json, part_json, ran_json, shown_members, shown_outside, shown_way, standing_json, status_json, step_json, step_members, text_or_null, titled_json, trail_json, unseen_json, used_json, verdict_json, waiting_json, why_json, with_events}
-use Rattle.outcome_forms.specs.Telling.{AccountIsOf, AreSameGaps, AreSameMissed, AuditedIsOf, DetailIsOf, EffectsAreOf, EndsSo, GapIsOf, GapsAreOf, LeftIsOf, MessageIsOf, MissedIsOf, MissedPairIsOf, OutsideIsOf, PairIsOf, PartIsOf, RecallIsOf, SomeIsOf, StandingIsOf, StepIsOf, TellsAccount, TellsWhy, TitleIsOf, UnseenIsOf, UsedIsOf, ValuesTellKinds, ValuesTellOutcomes, VerdictIsOf, WaitingIsOf, WhyIsOf, kind_of, shown_part}
+use Rattle.outcome_forms.specs.Json.{Shown, whole, before, behind, account_json, audited_json, beside_json, covered_json, detail_json, effects_json, engaged_json, event_json, gap_line_json, gaps_json, held_json, known_json, left_json, line_members, list_of, misfit_json, missed_json, missed_pair_json, outcome_json, outside_json, packed_json, packing_json, pair_json, part_json, ran_json, shown_members, shown_outside, shown_way, standing_json, status_json, step_json, step_members, text_or_null, titled_json, trail_json, unlinked_json, unlinked_of, unseen_json, used_json, verdict_json, waiting_json, why_json, with_events}
+use Rattle.outcome_forms.specs.Telling.{AccountIsOf, AreSameGaps, AreSameMissed, AuditedIsOf, DetailIsOf, EffectsAreOf, EndsSo, GapIsOf, GapsAreOf, LeftIsOf, MessageIsOf, MissedIsOf, MissedPairIsOf, OutsideIsOf, PackedIsOf, PairIsOf, PartIsOf, RecallIsOf, SomeIsOf, StandingIsOf, StepIsOf, TellsAccount, TellsWhy, TitleIsOf, UnseenIsOf, UsedIsOf, ValuesTellKinds, ValuesTellOutcomes, VerdictIsOf, WaitingIsOf, WhyIsOf, kind_of, shown_part}
 use Rattle.trace_core.specs.Trails.{before_last}
 use Rattle.report_forms.specs.Accounts.{Account, OutsidePart, Part, way_pairs}
 use Rattle.report_forms.specs.declared.accounts.Title.{Title}
@@ -69,6 +69,7 @@ use Rattle.recall_outcomes.specs.declared.outcomes.MissedPair.{MissedPair}
 use Rattle.recall_outcomes.specs.declared.outcomes.MissedReach.{MissedReach}
 use Rattle.recall_outcomes.specs.declared.outcomes.Outcome.{Outcome}
 use Rattle.recall_outcomes.specs.declared.outcomes.Outcome.TheVariants as outcomes
+use Rattle.recall_outcomes.specs.declared.outcomes.PackedGap.{PackedGap}
 use Rattle.recall_outcomes.specs.declared.outcomes.SiteCoverage.{SiteCoverage}
 use Rattle.recall_outcomes.specs.declared.outcomes.StartedRecall.{StartedRecall}
 use Rattle.recall_outcomes.specs.declared.outcomes.Ways.{Ways}
@@ -297,15 +298,23 @@ event_tells e f same =
     let of : ℕ → Option (List ℕ) × Option (List ℕ) → CapturedEvent = λ n x. record { number = n; id = x.0; time = x.1 } in
     ap₂ of (ap (count_at 1) same) (ap₂ (λ i t. (i, t)) (text_tells e.id f.id (ap (at 0) same)) (text_tells e.time f.time (ap (at 2) same)))
 
-by_tells : (s t : StepEvents) → step_json s ≡ step_json t → s ≡ t
-by_tells (made.Shipped e) (made.Shipped f) same = ap made.Shipped (event_tells e f (ap (at 0) same))
-by_tells (made.Made a b) (made.Made c d) same = ap₂ made.Made (event_tells a c (ap (at 0) same)) (event_tells b d (ap (at 2) same))
-by_tells s t same = absurd (let no : ⊥ = omega (arith, ap tag same) in no)
-
 -- all are something
 all_any : {X : Type 0} (xs : List X) → All (λ (x : X). ⊤) xs
 all_any [] = All-nil (λ x. ⊤)
 all_any (x ∷ xs) = All-cons (λ y. ⊤) x xs tt (all_any xs)
+
+packing_tells : (x y : PackingEvent) → packing_json x ≡ packing_json y → x ≡ y
+packing_tells x y same =
+    let of : List ℕ → CapturedEvent → PackingEvent = λ into event. record { into = into; event = event } in
+    ap₂ of (ap (text_at 1) same) (event_tells x.event y.event (ap (at 0) same))
+
+packings_tell : (xs ys : List PackingEvent) → list_of packing_json xs ≡ list_of packing_json ys → xs ≡ ys
+packings_tell xs ys e = listed_tell (λ x. ⊤) packing_json (λ x y hx hy same. packing_tells x y same) xs ys (all_any xs) (all_any ys) e
+
+by_tells : (s t : StepEvents) → step_json s ≡ step_json t → s ≡ t
+by_tells (made.Shipped e xs) (made.Shipped f ys) same = ap₂ made.Shipped (event_tells e f (ap (at 0) same)) (packings_tell xs ys (ap (at 2) same))
+by_tells (made.Made a b) (made.Made c d) same = ap₂ made.Made (event_tells a c (ap (at 0) same)) (event_tells b d (ap (at 2) same))
+by_tells s t same = absurd (let no : ⊥ = omega (arith, ap tag same) in no)
 
 all_by_tell : (ss ts : List StepEvents) → list_of step_json ss ≡ list_of step_json ts → ss ≡ ts
 all_by_tell ss ts e = listed_tell (λ s. ⊤) step_json (λ s t hs ht same. by_tells s t same) ss ts (all_any ss) (all_any ts) e
@@ -562,17 +571,35 @@ audit_tells sites are a b ha hb e =
 
 -- ---- gaps
 
-packed_tells : (sites : List Site) → AreSites sites → (a b : GapLine) → GapIsOf sites a → GapIsOf sites b → packed_json sites a ≡ packed_json sites b → a ≡ b
-packed_tells sites are a b ha hb e =
-    let of : ℕ × ℕ → List ℕ × ℕ → GapLine = λ x y. record { site = x.0; container = y.0; by = x.1; items = y.1 } in
-    ap₂ of (ap₂ (λ x y. (x, y)) (site_tells sites are a.site b.site ha.0 hb.0 (ap (text_at 3) e)) (site_tells sites are a.by b.by ha.1 hb.1 (ap (text_at 0) e)))
+line_of : ℕ × ℕ → List ℕ × ℕ → GapLine
+line_of x y = record { site = x.0; container = y.0; by = x.1; items = y.1 }
+
+line_tells : (sites : List Site) → AreSites sites → (a b : GapLine) → GapIsOf sites a → GapIsOf sites b → gap_line_json sites a ≡ gap_line_json sites b → a ≡ b
+unfolding line_of
+line_tells sites are a b ha hb e =
+    ap₂ line_of (ap₂ (λ x y. (x, y)) (site_tells sites are a.site b.site ha.0 hb.0 (ap (text_at 3) e)) (site_tells sites are a.by b.by ha.1 hb.1 (ap (text_at 0) e)))
     (ap (λ d. (text_at 1 d, count_at 2 d)) e)
 
+packed_tells : (sites : List Site) → AreSites sites → (a b : PackedGap) → PackedIsOf sites a → PackedIsOf sites b → packed_json sites a ≡ packed_json sites b → a ≡ b
+unfolding line_of
+packed_tells sites are a b ha hb e =
+    let of : GapLine → Option (List ℕ) × Option (List ℕ) → PackedGap = λ l x. record { line = l; packed_at = x.0; shipped_at = x.1 } in
+    ap₂ of
+    (ap₂ line_of (ap₂ (λ x y. (x, y)) (site_tells sites are a.line.site b.line.site ha.0 hb.0 (ap (text_at 5) e)) (site_tells sites are a.line.by b.line.by ha.1 hb.1 (ap (text_at 0) e)))
+    (ap (λ d. (text_at 1 d, count_at 2 d)) e))
+    (ap₂ (λ x y. (x, y)) (text_tells a.packed_at b.packed_at (ap (at 3) e)) (text_tells a.shipped_at b.shipped_at (ap (at 4) e)))
+
+unlinked_tells : (sites : List Site) → AreSites sites → (a b : Option (List GapLine)) → SomeIsOf (All (GapIsOf sites)) a → SomeIsOf (All (GapIsOf sites)) b
+    → unlinked_json sites a ≡ unlinked_json sites b → a ≡ b
+unlinked_tells sites are None None ha hb e = refl
+unlinked_tells sites are (Some a) (Some b) ha hb e = ap Some (listed_tell (GapIsOf sites) (gap_line_json sites) (line_tells sites are) a b ha hb e)
+unlinked_tells sites are a b ha hb e = cc
+
 used_tells : (sites : List Site) → AreSites sites → (a b : GapLine) → UsedIsOf sites a → UsedIsOf sites b → used_json sites a ≡ used_json sites b → a ≡ b
+unfolding line_of
 used_tells sites are a b ha hb e =
-    let of : ℕ × ℕ → List ℕ × ℕ → GapLine = λ x y. record { site = x.0; container = y.0; by = x.1; items = y.1 } in
     let site : a.site ≡ b.site = site_tells sites are a.site b.site ha.0 hb.0 (ap (text_at 2) e) in
-    ap₂ of (ap₂ (λ x y. (x, y)) site (ha.1 ∙ site ∙ sym hb.1)) (ap (λ d. (text_at 0 d, count_at 1 d)) e)
+    ap₂ line_of (ap₂ (λ x y. (x, y)) site (ha.1 ∙ site ∙ sym hb.1)) (ap (λ d. (text_at 0 d, count_at 1 d)) e)
 
 unseen_tells : (sites : List Site) → AreSites sites → (a b : UnseenItem) → UnseenIsOf sites a → UnseenIsOf sites b → unseen_json sites a ≡ unseen_json sites b → a ≡ b
 unseen_tells sites are a b ha hb e =
@@ -583,10 +610,12 @@ unseen_tells sites are a b ha hb e =
 gaps_tell : (sites : List Site) → AreSites sites → (a b : FoundGaps) → GapsAreOf sites a → GapsAreOf sites b → gaps_json sites a ≡ gaps_json sites b → AreSameGaps a b
 unfolding gaps_json
 gaps_tell sites are a b ha hb e = record {
-  packed = ap₂ (λ (ls : List GapLine) (n : ℕ). let gaps : Gaps = record { lines = ls; items = n } in gaps)
-      (listed_tell (GapIsOf sites) (packed_json sites) (packed_tells sites are) a.packed.lines b.packed.lines ha.packed hb.packed (ap (at 1) e)) (ap (count_at 0) e);
-  used = listed_tell (UsedIsOf sites) (used_json sites) (used_tells sites are) a.used.items b.used.items ha.used hb.used (ap (at 3) e);
-  unseen = listed_tell (UnseenIsOf sites) (unseen_json sites) (unseen_tells sites are) a.unseen.items b.unseen.items ha.unseen hb.unseen (ap (at 2) e);
+  packed = listed_tell (PackedIsOf sites) (packed_json sites) (packed_tells sites are) a.packed.items b.packed.items ha.packed hb.packed (ap (at 2) e);
+  items = ap (count_at 0) e;
+  used = listed_tell (UsedIsOf sites) (used_json sites) (used_tells sites are) a.used.items b.used.items ha.used hb.used (ap (at 5) e);
+  unseen = listed_tell (UnseenIsOf sites) (unseen_json sites) (unseen_tells sites are) a.unseen.items b.unseen.items ha.unseen hb.unseen (ap (at 4) e);
+  lots = pairs_tell sites are a.lots.items b.lots.items ha.lots hb.lots (ap (at 1) e);
+  unlinked = unlinked_tells sites are (unlinked_of a) (unlinked_of b) ha.unlinked hb.unlinked (ap (at 3) e);
 }
 
 -- ---- what a recall misses

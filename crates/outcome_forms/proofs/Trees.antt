@@ -3,6 +3,7 @@ use Rattle.std.proofs.Common.{◌≡◌, ℕ, suc, false, List, [], ◌∷◌, A
 use Rattle.std.proofs.lemmas.List.Elements.{All-cons, All-head, All-nil, All-tail}
 use Rattle.event_json.specs.Sites.{Site}
 use Rattle.frame_core.specs.Numbers.{Message, Recall}
+use Rattle.gap_core.specs.declared.lines.GapLine.{GapLine}
 use Rattle.query_core.specs.declared.recalls.RecallDetail.{RecallDetail}
 use Rattle.query_core.specs.declared.recalls.RecallStatus.{RecallStatus}
 use Rattle.query_core.specs.declared.recalls.SiteStanding.{SiteStanding}
@@ -14,6 +15,7 @@ use Rattle.recall_outcomes.specs.declared.outcomes.MissedPair.{MissedPair}
 use Rattle.recall_outcomes.specs.declared.outcomes.MissedReach.{MissedReach}
 use Rattle.recall_outcomes.specs.declared.outcomes.Outcome.{Outcome}
 use Rattle.recall_outcomes.specs.declared.outcomes.Outcome.TheVariants as outcomes
+use Rattle.recall_outcomes.specs.declared.outcomes.PackedGap.{PackedGap}
 use Rattle.recall_outcomes.specs.declared.outcomes.Ways.{Ways}
 use Rattle.recall_text.specs.declared.site_lists.LineRefusal.{LineRefusal}
 use Rattle.recall_text.specs.declared.site_lists.LineRefusal.TheVariants.{BadLine, BadSite}
@@ -21,6 +23,7 @@ use Rattle.report_core.specs.declared.audits.Verdict.{Verdict}
 use Rattle.report_core.specs.declared.audits.Verdict.TheVariants as verdicts
 use Rattle.report_core.specs.declared.outside.OutsideShipment.{OutsideShipment}
 use Rattle.report_core.specs.declared.outside_events.OutsideEvent.{OutsideEvent}
+use Rattle.report_core.specs.declared.packing_events.PackingEvent.{PackingEvent}
 use Rattle.report_core.specs.declared.trail_events.CapturedEvent.{CapturedEvent}
 use Rattle.report_core.specs.declared.trail_events.StepEvents.{StepEvents}
 use Rattle.report_core.specs.declared.trail_events.StepEvents.TheVariants as steps_of
@@ -35,9 +38,9 @@ use Rattle.site_core.specs.declared.outcomes.Refusal.{Refusal}
 use Rattle.site_core.specs.declared.outcomes.Refusal.TheVariants as steps
 use Rattle.trace_core.specs.declared.pairs.Pair.{Pair}
 use Rattle.outcome_forms.specs.Accounts.{told_events}
-use Rattle.outcome_forms.specs.Json.{Shown, whole, before, behind, account_json, audited_json, beside_json, covered_json, created_json, detail_json, effects_json, engaged_json, event_json, gaps_json, held_json, known_json, left_json, line_members, list_of, misfit_json, missed_json, missed_pair_json, outcome_json, outside_json, packed_json, pair_json, part_json, ran_json, root_json, shown_members, shown_outside, shown_way, standing_json, status_json, step_json, step_members, text_or_null, titled_json, trail_json, unseen_json, used_json, verdict_json, waiting_json, why_json, with_events, would_json, withheld_json}
+use Rattle.outcome_forms.specs.Json.{Shown, whole, before, behind, account_json, audited_json, beside_json, covered_json, created_json, detail_json, effects_json, engaged_json, event_json, gap_line_json, gaps_json, held_json, known_json, left_json, line_members, list_of, misfit_json, missed_json, missed_pair_json, outcome_json, outside_json, packed_json, packing_json, pair_json, part_json, ran_json, root_json, shown_members, shown_outside, shown_way, standing_json, status_json, step_json, step_members, text_or_null, titled_json, trail_json, unlinked_json, unlinked_of, unseen_json, used_json, verdict_json, waiting_json, why_json, with_events, would_json, withheld_json}
 use Rattle.outcome_forms.specs.Telling.{ValuesAreRead}
-use Rattle.outcome_forms.proofs.Reading.{IsTree, all_read, deeper, tree_free}
+use Rattle.outcome_forms.proofs.Reading.{IsTree, all_read, tree_free}
 
 list_tree : {X : Type 0} (n : ℕ) (of : X → Data) → ((x : X) → IsTree n (of x)) → (xs : List X) → IsTree (suc n) (list_of of xs)
 list_tree n of each [] = tt
@@ -46,31 +49,34 @@ list_tree n of each (x ∷ xs) = (each x, list_tree n of each xs)
 pair_tree : (n : ℕ) (sites : List Site) (p : Pair) → IsTree (suc n) (pair_json sites p)
 pair_tree n sites p = (refl, (tt, (tt, tt)))
 
-trail_tree : (sites : List Site) (t : Option (List Pair)) → IsTree 2 (trail_json sites t)
+trail_tree : (sites : List Site) (t : Option (List Pair)) → IsTree 5 (trail_json sites t)
 trail_tree sites None = tt
-trail_tree sites (Some trail) = list_tree 1 (pair_json sites) (pair_tree 0 sites) trail
+trail_tree sites (Some trail) = list_tree 4 (pair_json sites) (pair_tree 3 sites) trail
 
-beside_tree : (sites : List Site) (p : Option Pair) → IsTree 2 (beside_json sites p)
+beside_tree : (sites : List Site) (p : Option Pair) → IsTree 5 (beside_json sites p)
 beside_tree sites None = tt
-beside_tree sites (Some p) = pair_tree 1 sites p
+beside_tree sites (Some p) = pair_tree 4 sites p
 
-shown_tree : (sites : List Site) (p : Pair) (shown : Shown) → IsTree 3 (object (shown_members sites p shown))
+shown_tree : (sites : List Site) (p : Pair) (shown : Shown) → IsTree 6 (object (shown_members sites p shown))
 shown_tree sites p (whole trail) = (refl, (tt, (tt, (trail_tree sites trail, tt))))
 shown_tree sites p (before q) = (refl, (beside_tree sites q, (tt, (tt, tt))))
 shown_tree sites p (behind q) = (refl, (tt, (tt, (beside_tree sites q, tt))))
 
-text_tree : (text : Option (List ℕ)) → IsTree 0 (text_or_null text)
-text_tree None = tt
-text_tree (Some text) = tt
+text_tree : (n : ℕ) (text : Option (List ℕ)) → IsTree n (text_or_null text)
+text_tree n None = tt
+text_tree n (Some text) = tt
 
-event_tree : (e : CapturedEvent) → IsTree 1 (event_json e)
-event_tree e = (refl, (text_tree e.id, (tt, (text_tree e.time, tt))))
+event_tree : (n : ℕ) (e : CapturedEvent) → IsTree (suc n) (event_json e)
+event_tree n e = (refl, (text_tree n e.id, (tt, (text_tree n e.time, tt))))
 
-by_tree : (s : StepEvents) → IsTree 2 (step_json s)
-by_tree (steps_of.Shipped e) = (refl, (event_tree e, (tt, tt)))
-by_tree (steps_of.Made taken given) = (refl, (event_tree taken, (tt, (event_tree given, tt))))
+packing_tree : (x : PackingEvent) → IsTree 2 (packing_json x)
+packing_tree x = (refl, (event_tree 0 x.event, (tt, tt)))
 
-effects_tree : (sites : List Site) (done : Effects) → IsTree 6 (effects_json sites done)
+by_tree : (s : StepEvents) → IsTree 4 (step_json s)
+by_tree (steps_of.Shipped e packings) = (refl, (event_tree 2 e, (tt, (list_tree 2 packing_json packing_tree packings, tt))))
+by_tree (steps_of.Made taken given) = (refl, (event_tree 2 taken, (tt, (event_tree 2 given, tt))))
+
+effects_tree : (sites : List Site) (done : Effects) → IsTree 8 (effects_json sites done)
 effects_tree sites (effects.Captured fresh known skipped) = (refl, (tt, (tt, (tt, tt))))
 effects_tree sites (effects.Started r new numbered ended) = (refl, (tt, (tt, (tt, (tt, tt)))))
 effects_tree sites (effects.Received new numbered owed) = (refl, (tt, (tt, (tt, tt))))
@@ -80,20 +86,20 @@ effects_tree sites effects.Cleared = (refl, (tt, tt))
 effects_tree sites (effects.ParentDue m) = (refl, (tt, (tt, tt)))
 effects_tree sites (effects.Ended r) = (refl, (tt, (tt, tt)))
 
-verdict_tree : (sites : List Site) (r : Recall) (v : Option Verdict) → IsTree 6 (verdict_json sites r v)
+verdict_tree : (sites : List Site) (r : Recall) (v : Option Verdict) → IsTree 8 (verdict_json sites r v)
 verdict_tree sites r None = (refl, (tt, (tt, tt)))
 verdict_tree sites r (Some (verdicts.Equal count)) = (refl, (tt, (tt, (tt, tt))))
 verdict_tree sites r (Some (verdicts.Differs p missing)) = (refl, (tt, (tt, (tt, (tt, (tt, tt))))))
 
-engaged_tree : (sites : List Site) (m : Option Message) → IsTree 3 (engaged_json sites m)
+engaged_tree : (sites : List Site) (m : Option Message) → IsTree 5 (engaged_json sites m)
 engaged_tree sites None = tt
 engaged_tree sites (Some m) = tt
 
-line_tree : (n : ℕ) (why : LineRefusal) → IsTree 6 (object (line_members n why))
+line_tree : (n : ℕ) (why : LineRefusal) → IsTree 8 (object (line_members n why))
 line_tree n BadLine = (refl, (tt, (tt, tt)))
 line_tree n (BadSite fault) = (refl, (tt, (tt, (tt, tt))))
 
-step_tree : (sites : List Site) (why : Refusal) → IsTree 6 (object (step_members sites why))
+step_tree : (sites : List Site) (why : Refusal) → IsTree 8 (object (step_members sites why))
 step_tree sites (steps.Blocked r key event) = (refl, (tt, (tt, (tt, (tt, tt)))))
 step_tree sites (steps.IdTaken event) = (refl, (tt, (tt, tt)))
 step_tree sites steps.UnknownItem = (refl, (tt, tt))
@@ -102,7 +108,7 @@ step_tree sites steps.NumbersSpent = (refl, (tt, tt))
 step_tree sites (steps.Doc fault) = (refl, (tt, (tt, (tt, (tt, tt)))))
 step_tree sites steps.NoMemory = (refl, (tt, tt))
 
-why_tree : (sites : List Site) (why : CommandRefusal) → IsTree 6 (why_json sites why)
+why_tree : (sites : List Site) (why : CommandRefusal) → IsTree 8 (why_json sites why)
 why_tree sites (refusals.Line refused) = line_tree refused.line refused.why
 why_tree sites refusals.NoWorld = (refl, (tt, tt))
 why_tree sites (refusals.Exists name) = (refl, (tt, (tt, tt)))
@@ -114,110 +120,122 @@ why_tree sites refusals.BadRecall = (refl, (tt, tt))
 why_tree sites refusals.UnknownRecall = (refl, (tt, tt))
 why_tree sites (refusals.Step why) = step_tree sites why
 
-with_tree : (sites : List Site) (p : Pair) (shown : Shown) (events : Option (List StepEvents)) → IsTree 4 (object (with_events events (shown_members sites p shown)))
-with_tree sites p shown None = deeper 3 (object (shown_members sites p shown)) (shown_tree sites p shown)
-with_tree sites p (whole trail) (Some steps) = (refl, (list_tree 2 step_json by_tree steps, (deeper 3 (object (shown_members sites p (whole trail))) (shown_tree sites p (whole trail))).1))
-with_tree sites p (before q) (Some steps) = (refl, (list_tree 2 step_json by_tree steps, (deeper 3 (object (shown_members sites p (before q))) (shown_tree sites p (before q))).1))
-with_tree sites p (behind q) (Some steps) = (refl, (list_tree 2 step_json by_tree steps, (deeper 3 (object (shown_members sites p (behind q))) (shown_tree sites p (behind q))).1))
+with_tree : (sites : List Site) (p : Pair) (shown : Shown) (events : Option (List StepEvents)) → IsTree 6 (object (with_events events (shown_members sites p shown)))
+with_tree sites p shown None = shown_tree sites p shown
+with_tree sites p (whole trail) (Some steps) = (refl, (list_tree 4 step_json by_tree steps, (shown_tree sites p (whole trail)).1))
+with_tree sites p (before q) (Some steps) = (refl, (list_tree 4 step_json by_tree steps, (shown_tree sites p (before q)).1))
+with_tree sites p (behind q) (Some steps) = (refl, (list_tree 4 step_json by_tree steps, (shown_tree sites p (behind q)).1))
 
-part_tree : (sites : List Site) (ways : Ways) (part : Part) → IsTree 4 (part_json sites ways part)
+part_tree : (sites : List Site) (ways : Ways) (part : Part) → IsTree 6 (part_json sites ways part)
 part_tree sites ways part = with_tree sites part.pair (shown_way ways part.way) part.events
 
-outside_tree : (sites : List Site) (x : OutsideShipment) (told : Option OutsideEvent) → IsTree 4 (shown_outside sites x told)
+outside_tree : (sites : List Site) (x : OutsideShipment) (told : Option OutsideEvent) → IsTree 6 (shown_outside sites x told)
 outside_tree sites x None = (refl, (tt, (tt, (tt, tt))))
-outside_tree sites x (Some told) = (refl, (tt, (tt, (deeper 2 (event_json told.event) (deeper 1 (event_json told.event) (event_tree told.event)), (tt, (tt, tt))))))
+outside_tree sites x (Some told) = (refl, (tt, (tt, (event_tree 4 told.event, (tt, (tt, tt))))))
 
-outsides_tree : (sites : List Site) (xs : List OutsidePart) → IsTree 5 (list_of (outside_json sites) xs)
-outsides_tree sites xs = list_tree 4 (outside_json sites) (λ x. outside_tree sites x.shipment x.event) xs
+outsides_tree : (sites : List Site) (xs : List OutsidePart) → IsTree 7 (list_of (outside_json sites) xs)
+outsides_tree sites xs = list_tree 6 (outside_json sites) (λ x. outside_tree sites x.shipment x.event) xs
 
-pairs_tree : (sites : List Site) (ps : List Pair) → IsTree 5 (list_of (pair_json sites) ps)
-pairs_tree sites ps = list_tree 4 (pair_json sites) (pair_tree 3 sites) ps
+pairs_tree : (sites : List Site) (ps : List Pair) → IsTree 7 (list_of (pair_json sites) ps)
+pairs_tree sites ps = list_tree 6 (pair_json sites) (pair_tree 5 sites) ps
 
-titled_tree : (sites : List Site) (title : Title) (root : Pair) (outside : List OutsidePart) (origins : List Pair) (pairs : Data) → IsTree 5 pairs
-    → IsTree 6 (titled_json sites title root outside origins pairs)
-titled_tree sites (titles.Recall r ended) root outside origins pairs is = (refl, (tt, (outsides_tree sites outside, (is, (tt, (pair_tree 4 sites root, tt))))))
-titled_tree sites titles.Forward root outside origins pairs is = (refl, (outsides_tree sites outside, (is, (pair_tree 4 sites root, (tt, tt)))))
-titled_tree sites titles.Back root outside origins pairs is = (refl, (pairs_tree sites origins, (is, (pair_tree 4 sites root, (tt, tt)))))
+titled_tree : (sites : List Site) (title : Title) (root : Pair) (outside : List OutsidePart) (origins : List Pair) (pairs : Data) → IsTree 7 pairs
+    → IsTree 8 (titled_json sites title root outside origins pairs)
+titled_tree sites (titles.Recall r ended) root outside origins pairs is = (refl, (tt, (outsides_tree sites outside, (is, (tt, (pair_tree 6 sites root, tt))))))
+titled_tree sites titles.Forward root outside origins pairs is = (refl, (outsides_tree sites outside, (is, (pair_tree 6 sites root, (tt, tt)))))
+titled_tree sites titles.Back root outside origins pairs is = (refl, (pairs_tree sites origins, (is, (pair_tree 6 sites root, (tt, tt)))))
 
-account_tree : (sites : List Site) (ways : Ways) (a : Account) → IsTree 6 (account_json sites ways a)
+account_tree : (sites : List Site) (ways : Ways) (a : Account) → IsTree 8 (account_json sites ways a)
 unfolding account_json
 account_tree sites ways a =
-    titled_tree sites a.title a.root a.outside a.origins (list_of (part_json sites ways) a.parts) (list_tree 4 (part_json sites ways) (part_tree sites ways) a.parts)
+    titled_tree sites a.title a.root a.outside a.origins (list_of (part_json sites ways) a.parts) (list_tree 6 (part_json sites ways) (part_tree sites ways) a.parts)
 
-root_tree : (sites : List Site) (s : RecallStatus) → IsTree 5 (root_json sites s)
-root_tree sites s = pair_tree 4 sites (record { site = s.recall.site; item = s.root })
+root_tree : (sites : List Site) (s : RecallStatus) → IsTree 7 (root_json sites s)
+root_tree sites s = pair_tree 6 sites (record { site = s.recall.site; item = s.root })
 
-status_tree : (sites : List Site) (s : RecallStatus) → IsTree 6 (status_json sites s)
+status_tree : (sites : List Site) (s : RecallStatus) → IsTree 8 (status_json sites s)
 unfolding status_json
 status_tree sites s = (refl, (tt, (tt, (tt, (root_tree sites s, (tt, tt))))))
 
-standing_tree : (sites : List Site) (s : SiteStanding) → IsTree 4 (standing_json sites s)
+standing_tree : (sites : List Site) (s : SiteStanding) → IsTree 6 (standing_json sites s)
 standing_tree sites s = (refl, (engaged_tree sites s.engaged_by, (tt, (tt, (tt, tt)))))
 
-detail_tree : (sites : List Site) (detail : RecallDetail) → IsTree 6 (detail_json sites detail)
+detail_tree : (sites : List Site) (detail : RecallDetail) → IsTree 8 (detail_json sites detail)
 unfolding detail_json
 detail_tree sites detail = (
   refl,
   (
     tt,
     (
-      list_tree 4 (waiting_json sites) (λ w. (refl, (tt, (tt, (tt, (tt, tt)))))) detail.waiting,
-      (tt, (tt, (root_tree sites detail.status, (list_tree 4 (standing_json sites) (standing_tree sites) detail.sites, (tt, tt))))),
+      list_tree 6 (waiting_json sites) (λ w. (refl, (tt, (tt, (tt, (tt, tt)))))) detail.waiting,
+      (tt, (tt, (root_tree sites detail.status, (list_tree 6 (standing_json sites) (standing_tree sites) detail.sites, (tt, tt))))),
     ),
   ),
 )
 
-gaps_tree : (sites : List Site) (gaps : FoundGaps) → IsTree 6 (gaps_json sites gaps)
+gap_line_tree : (sites : List Site) (l : GapLine) → IsTree 6 (gap_line_json sites l)
+gap_line_tree sites l = (refl, (tt, (tt, (tt, (tt, tt)))))
+
+packed_tree : (sites : List Site) (g : PackedGap) → IsTree 6 (packed_json sites g)
+packed_tree sites g = (refl, (tt, (tt, (tt, (text_tree 5 g.packed_at, (text_tree 5 g.shipped_at, (tt, tt)))))))
+
+unlinked_tree : (sites : List Site) (lines : Option (List GapLine)) → IsTree 7 (unlinked_json sites lines)
+unlinked_tree sites None = tt
+unlinked_tree sites (Some lines) = list_tree 6 (gap_line_json sites) (gap_line_tree sites) lines
+
+gaps_tree : (sites : List Site) (gaps : FoundGaps) → IsTree 8 (gaps_json sites gaps)
 unfolding gaps_json
 gaps_tree sites gaps = (
   refl,
   (
     tt,
     (
-      list_tree 4 (packed_json sites) (λ l. (refl, (tt, (tt, (tt, (tt, tt)))))) gaps.packed.lines,
+      pairs_tree sites gaps.lots.items,
       (
-        list_tree 4 (unseen_json sites) (λ u. (refl, (tt, (tt, (tt, tt))))) gaps.unseen.items,
-        (list_tree 4 (used_json sites) (λ l. (refl, (tt, (tt, (tt, tt))))) gaps.used.items, tt),
+        list_tree 6 (packed_json sites) (packed_tree sites) gaps.packed.items,
+        (
+          unlinked_tree sites (unlinked_of gaps),
+          (
+            list_tree 6 (unseen_json sites) (λ u. (refl, (tt, (tt, (tt, tt))))) gaps.unseen.items,
+            (list_tree 6 (used_json sites) (λ l. (refl, (tt, (tt, (tt, tt))))) gaps.used.items, tt),
+          ),
+        ),
       ),
     ),
   ),
 )
 
-held_tree : (sites : List Site) (r : Option Recall) → IsTree 3 (held_json sites r)
+held_tree : (sites : List Site) (r : Option Recall) → IsTree 5 (held_json sites r)
 held_tree sites None = tt
 held_tree sites (Some r) = tt
 
-missed_pair_tree : (sites : List Site) (m : MissedPair) → IsTree 4 (missed_pair_json sites m)
+missed_pair_tree : (sites : List Site) (m : MissedPair) → IsTree 6 (missed_pair_json sites m)
 missed_pair_tree sites m = (refl, (held_tree sites m.held, (tt, (tt, tt))))
 
-missed_tree : (sites : List Site) (r : Recall) (missed : MissedReach) → IsTree 6 (missed_json sites r missed)
+missed_tree : (sites : List Site) (r : Recall) (missed : MissedReach) → IsTree 8 (missed_json sites r missed)
 unfolding missed_json
 missed_tree sites r missed = (
   refl,
   (
-    list_tree 4 (left_json sites) (λ x. (refl, (tt, (tt, (tt, tt))))) missed.outside.items,
-    (list_tree 4 (missed_pair_json sites) (missed_pair_tree sites) missed.pairs.items, (tt, tt)),
+    list_tree 6 (left_json sites) (λ x. (refl, (tt, (tt, (tt, tt))))) missed.outside.items,
+    (list_tree 6 (missed_pair_json sites) (missed_pair_tree sites) missed.pairs.items, (tt, tt)),
   ),
 )
 
-created_tree : (sites : List Site) → IsTree 6 (created_json sites)
-created_tree sites = (refl, (list_tree 4 (λ (s : Site). string s.name) (λ s. tt) sites, tt))
+created_tree : (sites : List Site) → IsTree 8 (created_json sites)
+created_tree sites = (refl, (list_tree 6 (λ (s : Site). string s.name) (λ s. tt) sites, tt))
 
-time_tree : (text : Option (List ℕ)) → IsTree 5 (text_or_null text)
-time_tree None = tt
-time_tree (Some text) = tt
+covered_tree : (sites : List Site) (c : SiteCoverage) → IsTree 8 (covered_json sites c)
+covered_tree sites c = (refl, (tt, (text_tree 7 c.first, (tt, (text_tree 7 c.last, (tt, tt))))))
 
-covered_tree : (sites : List Site) (c : SiteCoverage) → IsTree 6 (covered_json sites c)
-covered_tree sites c = (refl, (tt, (time_tree c.first, (tt, (time_tree c.last, (tt, tt))))))
+one_tree : (d : Data) → IsTree 8 d → All (IsTree 8) (d ∷ [])
+one_tree d is = All-cons (IsTree 8) d [] is (All-nil (IsTree 8))
 
-one_tree : (d : Data) → IsTree 6 d → All (IsTree 6) (d ∷ [])
-one_tree d is = All-cons (IsTree 6) d [] is (All-nil (IsTree 6))
+each_tree : {X : Type 0} (of : X → Data) → ((x : X) → IsTree 8 (of x)) → (xs : List X) → All (IsTree 8) (map of xs)
+each_tree of each [] = All-nil (IsTree 8)
+each_tree of each (x ∷ xs) = All-cons (IsTree 8) (of x) (map of xs) (each x) (each_tree of each xs)
 
-each_tree : {X : Type 0} (of : X → Data) → ((x : X) → IsTree 6 (of x)) → (xs : List X) → All (IsTree 6) (map of xs)
-each_tree of each [] = All-nil (IsTree 6)
-each_tree of each (x ∷ xs) = All-cons (IsTree 6) (of x) (map of xs) (each x) (each_tree of each xs)
-
-all_trees : (sites : List Site) (o : Outcome) → All (IsTree 6) (outcome_json sites o)
+all_trees : (sites : List Site) (o : Outcome) → All (IsTree 8) (outcome_json sites o)
 all_trees sites outcomes.Created = one_tree (created_json sites) (created_tree sites)
 all_trees sites (outcomes.Stepped done) = one_tree (effects_json sites done) (effects_tree sites done)
 all_trees sites (outcomes.Ran recalls coded) = each_tree (ran_json sites) (λ b. (refl, (tt, (tt, tt)))) recalls.items
@@ -241,19 +259,19 @@ values_are_read sites o plain = all_read (outcome_json sites o) (all_trees sites
 
 -- ---- without floats
 
-all_free : (ds : List Data) → All (IsTree 6) ds → All (λ d. has_float d ≡ false) ds
+all_free : (ds : List Data) → All (IsTree 8) ds → All (λ d. has_float d ≡ false) ds
 all_free [] are = All-nil (λ d. has_float d ≡ false)
 all_free (d ∷ ds) are =
-    All-cons (λ e. has_float e ≡ false) d ds (tree_free 6 d (All-head (IsTree 6) d ds are)) (all_free ds (All-tail (IsTree 6) d ds are))
+    All-cons (λ e. has_float e ≡ false) d ds (tree_free 8 d (All-head (IsTree 8) d ds are)) (all_free ds (All-tail (IsTree 8) d ds are))
 
 pub outcome_free : (sites : List Site) (o : Outcome) → All (λ d. has_float d ≡ false) (outcome_json sites o)
 outcome_free sites o = all_free (outcome_json sites o) (all_trees sites o)
 
 pub part_free : (sites : List Site) (ways : Ways) (part : Part) → has_float (part_json sites ways part) ≡ false
-part_free sites ways part = tree_free 4 (part_json sites ways part) (part_tree sites ways part)
+part_free sites ways part = tree_free 6 (part_json sites ways part) (part_tree sites ways part)
 
 pub outside_free : (sites : List Site) (xs : List OutsidePart) → has_float (list_of (outside_json sites) xs) ≡ false
-outside_free sites xs = tree_free 5 (list_of (outside_json sites) xs) (outsides_tree sites xs)
+outside_free sites xs = tree_free 7 (list_of (outside_json sites) xs) (outsides_tree sites xs)
 
 pub pairs_free : (sites : List Site) (ps : List Pair) → has_float (list_of (pair_json sites) ps) ≡ false
-pairs_free sites ps = tree_free 5 (list_of (pair_json sites) ps) (pairs_tree sites ps)
+pairs_free sites ps = tree_free 7 (list_of (pair_json sites) ps) (pairs_tree sites ps)

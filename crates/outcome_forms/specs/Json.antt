@@ -1,6 +1,8 @@
 -- What a command came to, as JSON: values whose members are in the order of their names.
-use Rattle.std.specs.Prelude.{true, ℕ, Bool, List, [], ◌∷◌, ◌++◌, codes, Option, Some, None, map, string_bytes}
+use Rattle.std.specs.Prelude.{true, ℕ, Bool, List, [], ◌∷◌, ◌++◌, codes, Option, Some, None, map, option_map, string_bytes}
+use Rattle.std.specs.Global.{Global}
 use Rattle.std.specs.List.{flat_map}
+use Rattle.std.specs.declared.vec.Vec.{Vec}
 use Rattle.event_json.specs.Names.{field_name, kind_name, sites_fault_name}
 use Rattle.event_json.specs.Sites.{Site}
 use Rattle.event_json.specs.declared.doc_faults.DocFault.{DocFault}
@@ -16,6 +18,7 @@ use Rattle.query_core.specs.declared.recalls.SiteStanding.{SiteStanding}
 use Rattle.query_core.specs.declared.recalls.WaitingMessage.{WaitingMessage}
 use Rattle.report_core.specs.declared.audits.Verdict.{Verdict}
 use Rattle.report_core.specs.declared.audits.Verdict.TheVariants.{Equal, Differs}
+use Rattle.report_core.specs.declared.packing_events.PackingEvent.{PackingEvent}
 use Rattle.report_core.specs.declared.trail_events.CapturedEvent.{CapturedEvent}
 use Rattle.report_core.specs.declared.trail_events.StepEvents.{StepEvents}
 use Rattle.report_core.specs.declared.trail_events.StepEvents.TheVariants.{Shipped, Made}
@@ -52,6 +55,7 @@ use Rattle.recall_outcomes.specs.declared.outcomes.MissedPair.{MissedPair}
 use Rattle.recall_outcomes.specs.declared.outcomes.MissedReach.{MissedReach}
 use Rattle.recall_outcomes.specs.declared.outcomes.Outcome.{Outcome}
 use Rattle.recall_outcomes.specs.declared.outcomes.Outcome.TheVariants as outcomes
+use Rattle.recall_outcomes.specs.declared.outcomes.PackedGap.{PackedGap}
 use Rattle.recall_outcomes.specs.declared.outcomes.SiteCoverage.{SiteCoverage}
 use Rattle.recall_outcomes.specs.declared.outcomes.StartedRecall.{StartedRecall}
 use Rattle.recall_outcomes.specs.declared.outcomes.Ways.{Ways}
@@ -108,9 +112,14 @@ abbrev pub event_json : CapturedEvent → Data
 event_json e =
     object (member (codes "id") (text_or_null e.id) (count_at (codes "number") e.number (member (codes "time") (text_or_null e.time) no_members)))
 
+-- an event that put an item into another one, and which that is
+abbrev pub packing_json : PackingEvent → Data
+packing_json x = object (member (codes "event") (event_json x.event) (text_at (codes "into") x.into no_members))
+
 -- the events of a step
 abbrev pub step_json : StepEvents → Data
-step_json (Shipped e) = object (member (codes "event") (event_json e) (text_at (codes "kind") (codes "shipped") no_members))
+step_json (Shipped e packings) =
+    object (member (codes "event") (event_json e) (text_at (codes "kind") (codes "shipped") (member (codes "packings") (list_of packing_json packings) no_members)))
 step_json (Made taken given) =
     object (member (codes "input") (event_json taken) (text_at (codes "kind") (codes "made") (member (codes "output") (event_json given) no_members)))
 
@@ -253,10 +262,17 @@ audited_json sites audited = verdict_json sites audited.recall audited.verdict
 -- ---- gaps
 
 -- a container, the site that shipped it on, the one that packed it, and how many items lie in it
-abbrev pub packed_json : List Site → GapLine → Data
-packed_json sites l =
+abbrev pub gap_line_json : List Site → GapLine → Data
+gap_line_json sites l =
     object (text_at (codes "by") (name_at sites l.by) (text_at (codes "item") l.container (count_at (codes "items") l.items
     (text_at (codes "site") (name_at sites l.site) no_members))))
+
+-- and when it was packed there and shipped here, or null
+abbrev pub packed_json : List Site → PackedGap → Data
+packed_json sites g =
+    object (text_at (codes "by") (name_at sites g.line.by) (text_at (codes "item") g.line.container (count_at (codes "items") g.line.items
+    (member (codes "packed_at") (text_or_null g.packed_at) (member (codes "shipped_at") (text_or_null g.shipped_at)
+    (text_at (codes "site") (name_at sites g.line.site) no_members))))))
 
 -- a container, the site that took it into a transformation, and how many items that lie in it weren't taken in
 abbrev pub used_json : List Site → GapLine → Data
@@ -267,11 +283,21 @@ abbrev pub unseen_json : List Site → UnseenItem → Data
 unseen_json sites u =
     object (text_at (codes "from") (name_at sites u.from) (text_at (codes "item") u.item (text_at (codes "site") (name_at sites u.site) no_members)))
 
--- how many items lie in the packed ones, and all of them
+-- the containers that never came from where they were packed, where they are told
+abbrev pub unlinked_of : FoundGaps → Option (List GapLine)
+unlinked_of gaps = option_map (λ (lines : Vec GapLine Global). lines.items) gaps.unlinked
+
+-- these, or null
+abbrev pub unlinked_json : List Site → Option (List GapLine) → Data
+unlinked_json sites None = null
+unlinked_json sites (Some lines) = list_of (gap_line_json sites) lines
+
+-- how many items lie in the packed ones, and all of them; a lot stands with its site
 unfoldable pub gaps_json : List Site → FoundGaps → Data
 gaps_json sites gaps =
-    object (count_at (codes "items") gaps.packed.items (member (codes "packed") (list_of (packed_json sites) gaps.packed.lines)
-    (member (codes "unseen") (list_of (unseen_json sites) gaps.unseen.items) (member (codes "used") (list_of (used_json sites) gaps.used.items) no_members))))
+    object (count_at (codes "items") gaps.items (member (codes "lots") (list_of (pair_json sites) gaps.lots.items)
+    (member (codes "packed") (list_of (packed_json sites) gaps.packed.items) (member (codes "unlinked") (unlinked_json sites (unlinked_of gaps))
+    (member (codes "unseen") (list_of (unseen_json sites) gaps.unseen.items) (member (codes "used") (list_of (used_json sites) gaps.used.items) no_members))))))
 
 -- ---- what a recall misses
 

@@ -26,7 +26,7 @@ use Rattle.site_core.specs.declared.outcomes.Refusal.{Refusal}
 use Rattle.site_core.specs.declared.outcomes.Refusal.TheVariants as steps
 use Rattle.site_recovery.specs.declared.checking.Misfit.{Misfit}
 use Rattle.trace_core.specs.declared.pairs.Pair.{Pair}
-use Rattle.outcome_forms.specs.Json.{Shown, account_json, audited_json, covered_json, detail_json, effects_json, gaps_json, json_lines, known_json, misfit_json, missed_json, outcome_json, ran_json, shown_way, status_json, why_json, would_json}
+use Rattle.outcome_forms.specs.Json.{Shown, account_json, audited_json, covered_json, detail_json, effects_json, gaps_json, json_lines, known_json, misfit_json, missed_json, outcome_json, ran_json, shown_way, status_json, unlinked_of, why_json, would_json}
 use Rattle.report_forms.specs.Accounts.{Account, OutsidePart, Part, way_pairs}
 use Rattle.report_forms.specs.declared.accounts.Title.{Title}
 use Rattle.report_forms.specs.declared.accounts.Title.TheVariants as titles
@@ -38,6 +38,7 @@ use Rattle.recall_outcomes.specs.declared.outcomes.MissedPair.{MissedPair}
 use Rattle.recall_outcomes.specs.declared.outcomes.MissedReach.{MissedReach}
 use Rattle.recall_outcomes.specs.declared.outcomes.Outcome.{Outcome}
 use Rattle.recall_outcomes.specs.declared.outcomes.Outcome.TheVariants as outcomes
+use Rattle.recall_outcomes.specs.declared.outcomes.PackedGap.{PackedGap}
 use Rattle.recall_outcomes.specs.declared.outcomes.SiteCoverage.{SiteCoverage}
 use Rattle.recall_outcomes.specs.declared.outcomes.StartedRecall.{StartedRecall}
 use Rattle.recall_outcomes.specs.declared.outcomes.Ways.{Ways}
@@ -141,6 +142,9 @@ AuditedIsOf sites a = RecallIsOf sites a.recall × SomeIsOf (VerdictIsOf sites) 
 abbrev pub GapIsOf : List Site → GapLine → Type 0
 GapIsOf sites l = (l.site < length sites) × (l.by < length sites)
 
+abbrev pub PackedIsOf : List Site → PackedGap → Type 0
+PackedIsOf sites g = GapIsOf sites g.line
+
 -- of a used one the site itself is the packer
 abbrev pub UsedIsOf : List Site → GapLine → Type 0
 UsedIsOf sites l = (l.site < length sites) × (l.by ≡ l.site)
@@ -149,15 +153,20 @@ abbrev pub UnseenIsOf : List Site → UnseenItem → Type 0
 UnseenIsOf sites u = (u.site < length sites) × (u.from < length sites)
 
 pub record GapsAreOf (sites : List Site) (gaps : FoundGaps) : Type 0 where
-  pub packed : All (GapIsOf sites) gaps.packed.lines
+  pub packed : All (PackedIsOf sites) gaps.packed.items
   pub used : All (UsedIsOf sites) gaps.used.items
   pub unseen : All (UnseenIsOf sites) gaps.unseen.items
+  pub lots : All (PairIsOf sites) gaps.lots.items
+  pub unlinked : SomeIsOf (All (GapIsOf sites)) (unlinked_of gaps)
 
 -- the same gaps, by their lists
 pub record AreSameGaps (a b : FoundGaps) : Type 0 where
-  pub packed : a.packed ≡ b.packed
+  pub packed : a.packed.items ≡ b.packed.items
+  pub items : a.items ≡ b.items
   pub used : a.used.items ≡ b.used.items
   pub unseen : a.unseen.items ≡ b.unseen.items
+  pub lots : a.lots.items ≡ b.lots.items
+  pub unlinked : unlinked_of a ≡ unlinked_of b
 
 abbrev pub MissedPairIsOf : List Site → MissedPair → Type 0
 MissedPairIsOf sites m = PairIsOf sites m.pair × SomeIsOf (RecallIsOf sites) m.held

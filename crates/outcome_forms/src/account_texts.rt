@@ -8,7 +8,7 @@ use epc_core::Epc;
 use event_json::{PlainText, Sites};
 use recall_outcomes::{Fault, Ways};
 use recall_text::telling::{ended_word, name_of, push_pair, recall_text};
-use report_core::{CapturedEvent, OutsideEvent, StepEvents};
+use report_core::{CapturedEvent, OutsideEvent, PackingEvent, StepEvents};
 use report_forms::{Account, OutsidePart, Part, Title, Way};
 use std::alloc::{AllocError, Global};
 use std::io::Write;
@@ -191,10 +191,17 @@ fn push_trail(
     Ok(())
 }
 
-/// Adds the events of a step: of a transformation both, unless it is one event.
+/// Adds the events of a step: of a shipment also how the item came to lie in what was shipped, of a transformation
+/// both, unless it is one event.
 fn push_step(alloc: Global, text: &mut String, step: &StepEvents) -> Result<(), AllocError> {
     match step {
-        StepEvents::Shipped(event) => push_event(alloc, text, event, "shipped"),
+        StepEvents::Shipped { event, packings } => {
+            push_event(alloc, text, event, "shipped")?;
+            for packing in packings.as_slice() {
+                push_packing(alloc, text, packing)?;
+            }
+            Ok(())
+        }
         StepEvents::Made {
             taken_in,
             given_out,
@@ -206,6 +213,17 @@ fn push_step(alloc: Global, text: &mut String, step: &StepEvents) -> Result<(), 
             push_event(alloc, text, given_out, "made")
         }
     }
+}
+
+/// Adds the line of an event that put an item into another one.
+fn push_packing(
+    alloc: Global,
+    text: &mut String,
+    packing: &PackingEvent,
+) -> Result<(), AllocError> {
+    let key = packing.into.key(alloc)?;
+    let did = format!(in alloc; "packed into {key}")?;
+    push_event(alloc, text, &packing.event, did.as_str())
 }
 
 /// Adds the line of an event, which ends with what it did.

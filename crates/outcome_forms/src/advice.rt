@@ -35,7 +35,7 @@ pub(crate) fn advice(outcome: &Outcome) -> Option<&'static str> {
             coded: _,
         } => or_none(recalls.is_empty(), no_recall(*ended)),
         Outcome::Gaps { gaps, coded: _ } => or_none(
-            gaps.packed.lines.len() > 0,
+            gaps.packed.len() > 0,
             "note: past the site that shipped such a container on, a recall finds nothing of what others packed into it: before one reaches it, have that site capture the packing by `recall packs`\n",
         ),
         Outcome::Missed {

@@ -8,9 +8,10 @@ use crate::fault_json::{fault_json, note_lines};
 use crate::fault_texts::{bare_line, fault_text};
 use crate::forms::Form;
 use crate::input_sentences::InputSentences;
-use crate::notes::{inside_all_text, notes_text, places_text, untraced_text};
+use crate::missed_notes::inside_all_text;
+use crate::notes::{notes_text, places_text, untraced_text};
 use crate::sentences::sentences;
-use event_json::Untraced;
+use event_json::{PlainText, Untraced};
 use recall_outcomes::{Failure, Fault, Outcome, Output};
 use recall_text::write_text;
 use std::alloc::{AllocError, Global};
@@ -61,18 +62,19 @@ pub fn write_sentences<E: Write>(
     }
 }
 
-/// Writes what is noted of a batch: what its documents say and isn't traced, and how many items lie in those of which it
-/// started recalls.
+/// Writes what is noted of a batch: what its documents say and isn't traced, with destinations that are no traced site,
+/// and how many items lie in those of which it started recalls.
 pub fn write_noted<E: Write>(
     alloc: Global,
     form: Form,
     untraced: &Untraced,
+    places: &[PlainText],
     inside: u64,
     errors: &mut E,
 )
     ensures { AppendsText (E.contents errors.old) (E.contents errors.new) }
 {
-    note(alloc, form, untraced_text(alloc, untraced), errors);
+    note(alloc, form, untraced_text(alloc, untraced, places), errors);
     note(alloc, form, inside_all_text(alloc, inside), errors);
 }
 

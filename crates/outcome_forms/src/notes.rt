@@ -1,33 +1,25 @@
 //! What is told beside an outcome, in lines of the error stream.
 
-use event_json::{MAX_ADDRESSES, SiteNo, Sites, Untraced};
+use crate::missed_notes::{missed_items_text, missed_text};
+use event_json::{MAX_ADDRESSES, PlainText, SiteNo, Sites, Untraced};
 use gap_core::UntoldShipment;
 use item_spellings::are_one_place;
 use query_core::StuckRecall;
 use recall_outcomes::{
-    AuditNotes, Knower, Knowers, MissedItems, Notes, Outcome, RunNotes, Stop, StopCause,
+    AuditNotes, GapNotes, Knower, Knowers, Notes, Outcome, RunNotes, Stop, StopCause,
 };
 use recall_text::telling::{name_of, recall_text};
 use report_core::OutsideShipment;
 use site_recovery::Misfit;
 use std::alloc::{AllocError, Global};
-use trace_core::Pair;
 
 /// What it means where a recall waits at a site in vain.
 const STUCK: &str =
     "note: each of these sites takes part in the recall and has no message of it left, so `recall run` can't end it; no run leads there: put all sites' files back as one backup has them, or begin a recall of the item anew\n";
 
-/// What it means where items are missed.
-const MISSED: &str =
-    "note: these items went on from there in containers that others packed, and the site never captured that, so this doesn't tell where they went: `recall gaps` lists the containers\n";
-
-/// What it means where items lie in one that is told.
-const INSIDE: &str =
-    "note: so many items were packed into it, and where they went isn't told: `recall items <dir> <site> --in <epc>` lists them, to trace each and to start its recall\n";
-
-/// What it means where items lie in those of which recalls were started.
-const INSIDE_ALL: &str =
-    "note: so many items in all were packed into the recalled ones, and where they went isn't told: `recall items <dir> <site> --in <epc>` lists those in each, to trace each and to start its recall\n";
+/// What it means where containers were shipped on that never came from where they were packed.
+const UNLINKED: &str =
+    "note: so many containers were shipped on by sites that they never came to from where they were packed, so `recall packs` doesn't close them: `recall gaps --all` lists them\n";
 
 /// The notes beside an outcome.
 pub(crate) fn notes_text(
@@ -37,17 +29,23 @@ pub(crate) fn notes_text(
 ) -> Result<String, AllocError> {
     match notes {
         Notes::Nothing => Ok(String::new(alloc)),
-        Notes::Untraced(untraced) => untraced_text(alloc, untraced),
+        Notes::Untraced(told) => untraced_text(alloc, &told.counts, told.places.as_slice()),
         Notes::Run(run) => run_text(alloc, sites, run),
         Notes::Knowers(knowers) => knowers_text(alloc, sites, knowers),
         Notes::Audit(found) => audit_text(alloc, sites, found),
         Notes::Missed(missed) => missed_items_text(alloc, sites, missed),
+        Notes::Gaps(found) => gap_notes_text(alloc, *found),
         Notes::Misfit(misfit) => misfit_text(alloc, sites, *misfit),
     }
 }
 
-/// What a document says and isn't traced: a line for each count that isn't 0.
-pub(crate) fn untraced_text(alloc: Global, untraced: &Untraced) -> Result<String, AllocError> {
+/// What documents say and isn't traced: a line for each count that isn't 0, and one that names destinations that are no
+/// traced site.
+pub(crate) fn untraced_text(
+    alloc: Global,
+    untraced: &Untraced,
+    places: &[PlainText],
+) -> Result<String, AllocError> {
     let counts = [
         (
             untraced.skipped,
@@ -77,7 +75,25 @@ pub(crate) fn untraced_text(alloc: Global, untraced: &Untraced) -> Result<String
             text.push_str(format!(in alloc; "note: {count} {what}\n")?.as_str())?;
         }
     }
+    push_no_sites(&mut text, places)?;
     Ok(text)
+}
+
+/// Adds a line that names places that are no traced site, if there are any.
+fn push_no_sites(text: &mut String, places: &[PlainText]) -> Result<(), AllocError> {
+    let mut front = "note: no traced site: ";
+    for place in places {
+        text.push_str(front)?;
+        text.push_str(place.as_str())?;
+        front = ", ";
+    }
+    if places.is_empty() {
+        Ok(())
+    } else if places.len() < 5 {
+        text.push_str("\n")
+    } else {
+        text.push_str(", and perhaps more: `recall lint` names all\n")
+    }
 }
 
 /// What is known of a run beside its recalls.
@@ -86,9 +102,7 @@ fn run_text(alloc: Global, sites: &Sites, run: &RunNotes) -> Result<String, Allo
     for stop in &run.stops {
         push_stop(alloc, &mut text, sites, stop)?;
     }
-    if !run.missed.is_empty() {
-        text.push_str(missed_text(alloc, sites, run.missed.as_slice())?.as_str())?;
-    }
+    text.push_str(missed_text(alloc, sites, run.missed.as_slice())?.as_str())?;
     if run.shared {
         text.push_str("the system gave fewer threads than sites, so sites took turns\n")?;
     }
@@ -148,9 +162,7 @@ fn audit_text(alloc: Global, sites: &Sites, found: &AuditNotes) -> Result<String
     if !found.stuck.is_empty() {
         text.push_str(stuck_text(alloc, sites, found.stuck.as_slice())?.as_str())?;
     }
-    if !found.missed.is_empty() {
-        text.push_str(missed_text(alloc, sites, found.missed.as_slice())?.as_str())?;
-    }
+    text.push_str(missed_text(alloc, sites, found.missed.as_slice())?.as_str())?;
     Ok(text)
 }
 
@@ -175,60 +187,12 @@ fn misfit_text(alloc: Global, sites: &Sites, misfit: Misfit) -> Result<String, A
     )
 }
 
-/// What is missed of what is told of an item.
-fn missed_items_text(
-    alloc: Global,
-    sites: &Sites,
-    missed: &MissedItems,
-) -> Result<String, AllocError> {
-    let mut text = String::new(alloc);
-    if !missed.pairs.is_empty() {
-        text.push_str(missed_text(alloc, sites, missed.pairs.as_slice())?.as_str())?;
-    }
-    if missed.inside > 0 {
-        let count = missed.inside;
-        text.push_str(format!(in alloc; "inside {count}\n")?.as_str())?;
-        text.push_str(INSIDE)?;
-    }
+/// What is told beside gaps.
+fn gap_notes_text(alloc: Global, found: GapNotes) -> Result<String, AllocError> {
+    let count = found.unlinked;
+    let mut text = format!(in alloc; "unlinked {count}\n")?;
+    text.push_str(UNLINKED)?;
     Ok(text)
-}
-
-/// How many items lie in those of which recalls were started, if any do.
-pub(crate) fn inside_all_text(alloc: Global, count: u64) -> Result<String, AllocError> {
-    if count == 0 {
-        return Ok(String::new(alloc));
-    }
-    let mut text = format!(in alloc; "inside {count}\n")?;
-    text.push_str(INSIDE_ALL)?;
-    Ok(text)
-}
-
-/// How many items are missed at each site, and what can be done.
-fn missed_text(alloc: Global, sites: &Sites, missed: &[Pair]) -> Result<String, AllocError> {
-    let mut text = String::new(alloc);
-    for number in 0..sites.len() {
-        if let Some(site) = SiteNo::of(number) {
-            push_missed(alloc, &mut text, sites, missed, site)?;
-        }
-    }
-    text.push_str(MISSED)?;
-    Ok(text)
-}
-
-/// Adds how many items are missed at a site, if there are any.
-fn push_missed(
-    alloc: Global,
-    text: &mut String,
-    sites: &Sites,
-    missed: &[Pair],
-    site: SiteNo,
-) -> Result<(), AllocError> {
-    let count = missed.iter().filter(|pair| pair.site == site).count();
-    if count == 0 {
-        return Ok(());
-    }
-    let name = name_of(sites, site);
-    text.push_str(format!(in alloc; "missed {count} at {name}\n")?.as_str())
 }
 
 /// Of a report, of a trace to where an item went, and of what a recall misses: for each listed address of a site that

@@ -1,14 +1,13 @@
 //! Outcomes in lines of words, but for reports and traces.
 
+use crate::gap_texts::gaps_text;
 use crate::missed_texts::missed_reach_text;
 use crate::shown_texts::shown;
 use event_json::{PlainText, Sites};
 use frame_core::RecallId;
-use gap_core::{GapLine, UnseenItem};
 use query_core::{RecallDetail, RecallStatus, SiteStanding, WaitingMessage};
 use recall_outcomes::{
-    AuditedRecall, CommandRefusal, FoundGaps, InputOutcome, Outcome, SiteCoverage, StartedRecall,
-    Task, Totals,
+    AuditedRecall, CommandRefusal, InputOutcome, Outcome, SiteCoverage, StartedRecall, Task, Totals,
 };
 use recall_text::telling::{effects_text, ended_word, name_of, recall_text, refusal_text};
 use recall_text::texts::message_text;
@@ -71,7 +70,7 @@ pub(crate) fn outcome_text(
             let name = name_of(sites, misfit.site);
             return format!(in alloc; "misfit {condition} {name}\n");
         }
-        Outcome::Gaps { gaps, coded: _ } => push_gaps(alloc, &mut text, sites, gaps)?,
+        Outcome::Gaps { gaps, coded: _ } => return gaps_text(alloc, sites, gaps),
         Outcome::Missed {
             recall: _,
             missed,
@@ -184,70 +183,6 @@ fn push_audited(
         }
     };
     text.push_str(line.as_str())
-}
-
-/// Adds the gaps, a line for each, and how many there are.
-fn push_gaps(
-    alloc: Global,
-    text: &mut String,
-    sites: &Sites,
-    gaps: &FoundGaps,
-) -> Result<(), AllocError> {
-    for line in gaps.packed.lines.as_slice() {
-        push_packed(alloc, text, sites, line)?;
-    }
-    for line in gaps.used.as_slice() {
-        push_used(alloc, text, sites, line)?;
-    }
-    for item in gaps.unseen.as_slice() {
-        push_unseen(alloc, text, sites, item)?;
-    }
-    let (packed, items) = (gaps.packed.lines.len(), gaps.packed.items);
-    let (used, unseen) = (gaps.used.len(), gaps.unseen.len());
-    let total = format!(in alloc;
-        "total packed {packed} items {items} used {used} unseen {unseen}\n"
-    )?;
-    text.push_str(total.as_str())
-}
-
-/// Adds a container that a site shipped on and another one packed.
-fn push_packed(
-    alloc: Global,
-    text: &mut String,
-    sites: &Sites,
-    line: &GapLine,
-) -> Result<(), AllocError> {
-    let name = name_of(sites, line.site);
-    let key = line.container.key(alloc)?;
-    let by = name_of(sites, line.by);
-    let items = line.items;
-    text.push_str(format!(in alloc; "gap packed {name} {key} by {by} items {items}\n")?.as_str())
-}
-
-/// Adds a container that went into a transformation without what lies in it.
-fn push_used(
-    alloc: Global,
-    text: &mut String,
-    sites: &Sites,
-    line: &GapLine,
-) -> Result<(), AllocError> {
-    let name = name_of(sites, line.site);
-    let key = line.container.key(alloc)?;
-    let items = line.items;
-    text.push_str(format!(in alloc; "gap used {name} {key} items {items}\n")?.as_str())
-}
-
-/// Adds an item of which no event of the site tells that it was shipped to.
-fn push_unseen(
-    alloc: Global,
-    text: &mut String,
-    sites: &Sites,
-    unseen: &UnseenItem,
-) -> Result<(), AllocError> {
-    let name = name_of(sites, unseen.site);
-    let key = unseen.item.key(alloc)?;
-    let from = name_of(sites, unseen.from);
-    text.push_str(format!(in alloc; "gap unseen {name} {key} from {from}\n")?.as_str())
 }
 
 /// What is refused, behind the first word of its line.

@@ -2,11 +2,11 @@
 
 ghost use Rattle.std.specs.Prelude.{◌≡◌, IfOk, OnOk, option_map};
 ghost use Rattle.serde_json.specs.View.{members_view, view};
-ghost use Rattle.outcome_forms.specs.Json.{event_json, step_json, text_or_null, with_events};
+ghost use Rattle.outcome_forms.specs.Json.{event_json, list_of, packing_json, step_json, text_or_null, with_events};
 
 use crate::values::{ToJson, array, values};
 use event_json::{PlainText, Sites};
-use report_core::{CapturedEvent, StepEvents};
+use report_core::{CapturedEvent, PackingEvent, StepEvents};
 use serde_json::{Map, Value, json};
 use std::alloc::{AllocError, Global};
 
@@ -33,19 +33,30 @@ impl ToJson for StepEvents {
 
     ghost value = { λ _ step. step_json step };
 
+    fn json(&self, alloc: Global, sites: &Sites) -> Result<Value, AllocError> {
+        step_json(alloc, sites, self)
+    }
+}
+
+impl ToJson for PackingEvent {
+    ghost use Rattle.outcome_forms.specs.Json.{packing_json};
+
+    ghost value = { λ _ packing. packing_json packing };
+
     fn json(&self, alloc: Global, _: &Sites) -> Result<Value, AllocError> {
-        step_json(alloc, self)
+        packing_json(alloc, self)
     }
 }
 
 /// The events of a step.
-fn step_json(alloc: Global, step: &StepEvents) -> Result<Value, AllocError>
+fn step_json(alloc: Global, sites: &Sites, step: &StepEvents) -> Result<Value, AllocError>
     ensures { IfOk result (λ v. view v ≡ step_json step.now) }
 {
     match step {
-        StepEvents::Shipped(event) => {
+        StepEvents::Shipped { event, packings } => {
             let event = event_json(alloc, event)?;
-            json!(in alloc; {"event": event, "kind": "shipped"})
+            let packings = packings_json(alloc, sites, packings.as_slice())?;
+            json!(in alloc; {"event": event, "kind": "shipped", "packings": packings})
         }
         StepEvents::Made {
             taken_in,
@@ -55,6 +66,26 @@ fn step_json(alloc: Global, step: &StepEvents) -> Result<Value, AllocError>
             json!(in alloc; {"input": input, "kind": "made", "output": output})
         }
     }
+}
+
+/// How an item came to lie in what was shipped.
+fn packings_json(
+    alloc: Global,
+    sites: &Sites,
+    packings: &[PackingEvent],
+) -> Result<Value, AllocError>
+    ensures { IfOk result (λ v. view v ≡ list_of packing_json packings.now) }
+{
+    Ok(array(values(alloc, sites, packings)?))
+}
+
+/// An event that put an item into another one, and which that is.
+fn packing_json(alloc: Global, packing: &PackingEvent) -> Result<Value, AllocError>
+    ensures { IfOk result (λ v. view v ≡ packing_json packing.now) }
+{
+    let event = event_json(alloc, &packing.event)?;
+    let into = packing.into.key(alloc)?;
+    json!(in alloc; {"event": event, "into": into.as_str()})
 }
 
 /// An event.

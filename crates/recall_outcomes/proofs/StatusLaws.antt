@@ -33,40 +33,41 @@ some_first : {X : Type 0} (xs : List X) → (length xs == 0) ≡ false → (x : 
 some_first [] e = absurd (false≢true (sym e))
 some_first (x ∷ xs) e = (x, contains_here x xs)
 
-either_none : (a b c : Bool) → not ((a && b) && c) ≡ true → (a ≡ false) ⊎ ((b ≡ false) ⊎ (c ≡ false))
-either_none false b c e = inl refl
-either_none true false c e = inr (inl refl)
-either_none true true false e = inr (inr refl)
-either_none true true true e = absurd (false≢true e)
+some_false : (a b c d : Bool) → not (((a && b) && c) && d) ≡ true → (a ≡ false) ⊎ ((b ≡ false) ⊎ ((c ≡ false) ⊎ (d ≡ false)))
+some_false false b c d e = inl refl
+some_false true false c d e = inr (inl refl)
+some_false true true false d e = inr (inr (inl refl))
+some_false true true true false e = inr (inr (inr refl))
+some_false true true true true e = absurd (false≢true e)
 
-first_not : (a b c : Bool) → a ≡ false → not ((a && b) && c) ≡ true
-first_not false b c e = refl
-first_not true b c e = absurd (false≢true (sym e))
-
-second_not : (a b c : Bool) → b ≡ false → not ((a && b) && c) ≡ true
-second_not false b c e = refl
-second_not true false c e = refl
-second_not true true c e = absurd (false≢true (sym e))
-
-third_not : (a b c : Bool) → c ≡ false → not ((a && b) && c) ≡ true
-third_not false b c e = refl
-third_not true false c e = refl
-third_not true true false e = refl
-third_not true true true e = absurd (false≢true (sym e))
+not_all : (a b c d : Bool) → (a ≡ false) ⊎ ((b ≡ false) ⊎ ((c ≡ false) ⊎ (d ≡ false))) → not (((a && b) && c) && d) ≡ true
+not_all false b c d h = refl
+not_all true false c d h = refl
+not_all true true false d h = refl
+not_all true true true false h = refl
+not_all true true true true h = absurd (⊎_elim (λ p. false≢true (sym p)) (λ q. ⊎_elim (λ p. false≢true (sym p)) (λ r. ⊎_elim (λ p. false≢true (sym p)) (λ p. false≢true (sym p)) r) q) h)
 
 gap_of : (gaps : FoundGaps) → has_gaps gaps ≡ true → HasGap gaps
 gap_of gaps e = ⊎_elim
-    (λ packed. inl (some_first gaps.packed.lines packed))
-    (λ more. ⊎_elim (λ used. inr (inl (some_first gaps.used.items used))) (λ unseen. inr (inr (some_first gaps.unseen.items unseen))) more)
-    (either_none (length gaps.packed.lines == 0) (length gaps.used.items == 0) (length gaps.unseen.items == 0) e)
+    (λ packed. inl (some_first gaps.packed.items packed))
+    (λ more. ⊎_elim
+    (λ used. inr (inl (some_first gaps.used.items used)))
+    (λ rest. ⊎_elim (λ unseen. inr (inr (inl (some_first gaps.unseen.items unseen)))) (λ lots. inr (inr (inr (some_first gaps.lots.items lots)))) rest)
+    more)
+    (some_false (length gaps.packed.items == 0) (length gaps.used.items == 0) (length gaps.unseen.items == 0) (length gaps.lots.items == 0) e)
 
 gaps_of : (gaps : FoundGaps) → HasGap gaps → has_gaps gaps ≡ true
 gaps_of gaps has =
-    let (a, b, c) : Bool × Bool × Bool = (length gaps.packed.lines == 0, length gaps.used.items == 0, length gaps.unseen.items == 0) in
-    ⊎_elim
-    (λ (l, there). first_not a b c (empty_has_none gaps.packed.lines l there))
-    (λ more. ⊎_elim (λ (l, there). second_not a b c (empty_has_none gaps.used.items l there)) (λ (u, there). third_not a b c (empty_has_none gaps.unseen.items u there)) more)
-    has
+    not_all (length gaps.packed.items == 0) (length gaps.used.items == 0) (length gaps.unseen.items == 0) (length gaps.lots.items == 0) (⊎_elim
+    (λ (g, there). inl (empty_has_none gaps.packed.items g there))
+    (λ more. ⊎_elim
+    (λ (l, there). inr (inl (empty_has_none gaps.used.items l there)))
+    (λ rest. ⊎_elim
+    (λ (u, there). inr (inr (inl (empty_has_none gaps.unseen.items u there))))
+    (λ (p, there). inr (inr (inr (empty_has_none gaps.lots.items p there))))
+    rest)
+    more)
+    has)
 
 either_one : (a b : Bool) → a || b ≡ true → (a ≡ true) ⊎ (b ≡ true)
 either_one true b e = inl refl

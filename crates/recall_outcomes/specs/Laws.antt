@@ -16,6 +16,7 @@ use Rattle.recall_outcomes.specs.declared.outcomes.CommandRefusal.{CommandRefusa
 use Rattle.recall_outcomes.specs.declared.outcomes.FoundGaps.{FoundGaps}
 use Rattle.recall_outcomes.specs.declared.outcomes.MissedPair.{MissedPair}
 use Rattle.recall_outcomes.specs.declared.outcomes.MissedReach.{MissedReach}
+use Rattle.recall_outcomes.specs.declared.outcomes.PackedGap.{PackedGap}
 use Rattle.recall_outcomes.specs.declared.outcomes.StartedRecall.{StartedRecall}
 use Rattle.recall_outcomes.specs.declared.outcomes.Outcome.{Outcome}
 use Rattle.recall_outcomes.specs.declared.outcomes.Outcome.TheVariants as outcomes
@@ -41,9 +42,11 @@ IsAmiss other = ⊥
 abbrev pub IsOpen : RecallStatus → Type 0
 IsOpen status = status.ended ≡ false
 
--- a gap of one of the three kinds was found
+-- a gap of one of the four kinds was found
 abbrev pub HasGap : FoundGaps → Type 0
-HasGap gaps = ((l : GapLine) × Contains gaps.packed.lines l) ⊎ (((l : GapLine) × Contains gaps.used.items l) ⊎ ((u : UnseenItem) × Contains gaps.unseen.items u))
+HasGap gaps =
+    ((g : PackedGap) × Contains gaps.packed.items g)
+    ⊎ (((l : GapLine) × Contains gaps.used.items l) ⊎ (((u : UnseenItem) × Contains gaps.unseen.items u) ⊎ ((p : Pair) × Contains gaps.lots.items p)))
 
 -- a recall misses a pair that no recall holds, or something that left the traced sites
 abbrev pub HasMissed : MissedReach → Type 0

@@ -1,3 +1,4 @@
 pub mod Batches
 pub mod Laws
+pub mod Missed
 pub mod Statuses

@@ -34,7 +34,7 @@ is_open status = not status.ended
 
 -- there are gaps
 abbrev pub has_gaps : FoundGaps → Bool
-has_gaps gaps = not ((length gaps.packed.lines == 0 && length gaps.used.items == 0) && length gaps.unseen.items == 0)
+has_gaps gaps = not (((length gaps.packed.items == 0 && length gaps.used.items == 0) && length gaps.unseen.items == 0) && length gaps.lots.items == 0)
 
 -- a pair is quarantined under no recall
 abbrev pub is_unheld : MissedPair → Bool

@@ -14,8 +14,11 @@ mod outcomes;
 pub use batches::{InputOutcome, Task, Totals};
 pub use causes::{Cause, Failure};
 pub use faults::Fault;
-pub use notes::{AuditNotes, Knower, Knowers, MissedItems, Notes, RunNotes, Stop, StopCause};
+pub use notes::{
+    AuditNotes, GapNotes, Knower, Knowers, MissedItems, Notes, RunNotes, Stop, StopCause,
+    UntracedNotes,
+};
 pub use outcomes::{
-    AuditedRecall, CommandRefusal, FoundGaps, MissedPair, MissedReach, Outcome, Output,
+    AuditedRecall, CommandRefusal, FoundGaps, MissedPair, MissedReach, Outcome, Output, PackedGap,
     SiteCoverage, StartedRecall, Ways,
 };

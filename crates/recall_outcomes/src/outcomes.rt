@@ -2,18 +2,20 @@
 
 ghost use Rattle.std.specs.Prelude.{◌≡◌};
 ghost use Rattle.std.specs.List.{list_any};
+ghost use Rattle.recall_outcomes.specs.Missed.{IsNoReach};
 ghost use Rattle.recall_outcomes.specs.Statuses.{audit_status, has_gaps, has_missed, is_amiss, is_open, is_unended, is_unheld, is_unjudged, outcome_status};
 
 use crate::notes::Notes;
 use event_json::{PlainText, Sequence, SiteNo, Sites};
 use frame_core::RecallId;
-use gap_core::{GapLine, Gaps, UnseenItem, UntoldShipment};
+use gap_core::{GapLine, UnseenItem, UntoldShipment};
 use item_spellings::ScanFault;
 use query_core::{KnownItem, RecallDetail, RecallStatus};
 use recall_text::RefusedLine;
 use report_core::{BackTrace, RecallReport, ShownEvents, StepEvents, Trace, Verdict};
 use site_core::{Effects, Refusal};
 use site_recovery::Misfit;
+use std::alloc::Global;
 use trace_core::Pair;
 
 /// Whether a path is shown in full or by its last step.
@@ -55,15 +57,32 @@ pub struct SiteCoverage {
     pub last: Option<PlainText>,
 }
 
+/// A container that a site shipped on and another one packed: the first one never captured that.
+#[derive(Debug, Drop)]
+pub struct PackedGap {
+    pub line: GapLine,
+    /// When the site that packed it first put something into it, in UTC; `None` where no time names that instant.
+    pub packed_at: Option<PlainText>,
+    /// When the other site last shipped it on, in the same way.
+    pub shipped_at: Option<PlainText>,
+}
+
 /// Where a site's events say nothing of what others packed, or sent it.
 #[derive(Debug, Drop)]
 pub struct FoundGaps {
-    /// The containers that a site shipped on and others packed: it never captured that.
-    pub packed: Gaps,
+    /// The containers that a site shipped on and others packed.
+    pub packed: Vec<PackedGap>,
+    /// How many items all of those have.
+    pub items: usize,
     /// The containers that a site took into a transformation, and what lies in them not.
     pub used: Vec<GapLine>,
     /// The items that were shipped to a site of which no event names them.
     pub unseen: Vec<UnseenItem>,
+    /// The lots that some recall holds, each at a site of which an event names it and where no recall holds it.
+    pub lots: Vec<Pair>,
+    /// The containers that a site shipped on and that another one packed from which they never came; `None` where they
+    /// aren't told.
+    pub unlinked: Option<Vec<GapLine>>,
 }
 
 /// A pair that a recall misses: its root reaches it by the packings that other sites captured alone.
@@ -81,6 +100,18 @@ pub struct MissedReach {
     pub pairs: Vec<MissedPair>,
     /// The shipments out of the traced sites that its report doesn't tell, by site, item and destination.
     pub outside: Vec<UntoldShipment>,
+}
+
+impl MissedReach {
+    /// Nothing is missed. Does not allocate.
+    pub fn nothing(alloc: Global) -> MissedReach
+        ensures { IsNoReach result }
+    {
+        MissedReach {
+            pairs: Vec::new(alloc),
+            outside: Vec::new(alloc),
+        }
+    }
 }
 
 /// What a command on the sites' files did, or why it was refused.
@@ -358,11 +389,14 @@ fn is_open(status: &RecallStatus) -> bool
     !status.ended
 }
 
-/// Whether there are gaps.
+/// Whether there are gaps; containers that never came from where they were packed are none.
 fn has_gaps(gaps: &FoundGaps) -> bool
     ensures { result ≡ has_gaps gaps.now }
 {
-    !(gaps.packed.lines.is_empty() && gaps.used.is_empty() && gaps.unseen.is_empty())
+    !(gaps.packed.is_empty()
+        && gaps.used.is_empty()
+        && gaps.unseen.is_empty()
+        && gaps.lots.is_empty())
 }
 
 /// Whether something that a recall misses is held by no recall, or left the traced sites.

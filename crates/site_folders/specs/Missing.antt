@@ -2,6 +2,7 @@
 use Rattle.std.specs.Prelude.{◌≡◌, ◌≢◌, ◌↔◌, ℕ, List, [], ◌∷◌, Contains, length}
 use Rattle.gap_core.specs.Inside.{AreInside}
 use Rattle.gap_core.specs.Missed.{IsMissedPair}
+use Rattle.recall_outcomes.specs.Missed.{IsNoReach}
 use Rattle.recall_outcomes.specs.declared.notes.Notes.{Notes}
 use Rattle.recall_outcomes.specs.declared.notes.Notes.TheVariants as notes
 use Rattle.site_core.specs.Records.{Record}
@@ -23,5 +24,6 @@ CountsOwn r item n = (items : List (List ℕ)) × AreInside (r.captured ∷ []) 
 -- it is noted how many items lie in one, if any do
 abbrev pub NotesInside : ℕ → Notes → Type 0
 NotesInside inside notes.Nothing = inside ≡ 0
-NotesInside inside (notes.Missed found) = (found.pairs.items ≡ []) × (found.inside ≡ inside) × (inside ≢ 0)
+NotesInside inside (notes.Missed found) =
+    (found.pairs.items ≡ []) × (found.containers.items ≡ []) × IsNoReach found.reach × (found.inside ≡ inside) × (inside ≢ 0)
 NotesInside inside other = ⊥

@@ -49,8 +49,5 @@ pub fn inside_notes(alloc: Global, inside: u64) -> Notes
     if inside == 0 {
         return Notes::Nothing;
     }
-    Notes::Missed(MissedItems {
-        pairs: Vec::new(alloc),
-        inside,
-    })
+    Notes::Missed(MissedItems::of(alloc, Vec::new(alloc), inside))
 }
