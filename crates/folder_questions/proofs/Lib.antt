@@ -2,10 +2,16 @@ mod BesideLemmas
 mod ContentsLemmas
 mod CoverageLemmas
 mod DryStartLemmas
+mod EachSitePlanLemmas
+mod GapLemmas
+mod GapsPlanLemmas
 mod KnowerLemmas
 mod LateLemmas
+mod LotLemmas
 mod MissedLemmas
+mod MissedNoteLemmas
 mod NoneLemmas
 mod PackLemmas
+mod PacksPlanLemmas
 mod PlanLemmas
 mod RefusalLemmas

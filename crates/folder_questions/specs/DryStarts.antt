@@ -17,7 +17,7 @@ use Rattle.site_core.specs.declared.steps.Stepped.TheVariants.{Same, Next}
 use Rattle.site_folders.specs.Refusals.{IsRefusal}
 use Rattle.site_recovery.specs.Looks.{world_of}
 use Rattle.folder_questions.specs.Beside.{Beside}
-use Rattle.folder_questions.specs.Gaps.{NotesMissedFrom}
+use Rattle.folder_questions.specs.MissedNotes.{NotesMissedFrom}
 
 -- how many items a start quarantines, and how many messages it numbers
 abbrev pub TellsStart : Effects → Outcome → Type 0
@@ -38,4 +38,4 @@ AnswersStep r input other = ⊥
 
 -- So for the start of a recall of the item at the site. It is noted how the records contradict each other, and else what the recall would miss, and what lies in the item.
 abbrev pub AnswersDryStart : List Record → ℕ → List ℕ → Outcome → Notes → Type 0
-AnswersDryStart records site item outcome notes = AnswersStep (world_of records site) (Start item) outcome × Beside records (NotesMissedFrom records site item) notes
+AnswersDryStart records site item outcome notes = AnswersStep (world_of records site) (Start item) outcome × Beside records (NotesMissedFrom records (record { site = site; item = item })) notes

@@ -12,7 +12,7 @@ use Rattle.site_core.specs.declared.outcomes.Refusal.TheVariants.{UnknownItem}
 use Rattle.site_recovery.specs.Looks.{world_of}
 use Rattle.site_folders.specs.Refusals.{IsRefusal}
 use Rattle.folder_questions.specs.Beside.{Beside}
-use Rattle.folder_questions.specs.Gaps.{NotesMissed}
+use Rattle.folder_questions.specs.MissedNotes.{NotesMissed}
 use Rattle.folder_questions.specs.TrailEvents.{TellsEvents, TellsShown, steps_from, steps_to}
 
 -- the site doesn't know the item, and that is the refusal
@@ -24,7 +24,7 @@ RefusesUnknown records site item outcome = (IsKnownAt (world_of records) site it
 abbrev pub AnswersTrace : List Record → ℕ → List ℕ → Bool → Ways → Bool → Outcome → Notes → Type 0
 AnswersTrace records site item false ways events (Traced trace told behind) notes =
     (told ≡ ways) × IsTrace records site item trace × IsKnownAt (world_of records) site item × TellsShown records events (steps_to ways) trace.trails trace.outside behind
-    × Beside records (NotesMissed records trace.pairs item) notes
+    × Beside records (NotesMissed records trace.pairs trace.root) notes
 AnswersTrace records site item true ways events (TracedBack trace told behind) notes =
     (told ≡ ways) × IsBackTrace records site item trace × IsKnownAt (world_of records) site item × TellsEvents records events (steps_from ways) trace.trails behind
     × Beside records (λ noted. noted ≡ Nothing) notes

@@ -8,7 +8,7 @@ ghost use Rattle.site_recovery.specs.FittingAt.{AreAllSites};
 ghost use Rattle.site_folders.specs.Begun.{begun};
 ghost use Rattle.folder_questions.specs.Audits.{AnswersAudit, AuditsRecall, NotesAudit};
 
-use crate::gaps::are_none;
+use crate::missed_notes::are_none;
 use event_json::Sites;
 use query_core::{StuckRecall, stuck_recalls};
 use recall_outcomes::{AuditNotes, AuditedRecall, Notes, Outcome, StartedRecall};

@@ -5,11 +5,9 @@ ghost use Rattle.recall_outcomes.specs.declared.notes.Notes.TheVariants.{Nothing
 ghost use Rattle.site_recovery.specs.Checking.{records_at};
 ghost use Rattle.site_recovery.specs.FittingAt.{AreAllSites};
 ghost use Rattle.folder_questions.specs.Beside.{Beside, Contradict};
-ghost use Rattle.folder_questions.specs.Gaps.{NotesMissed, NotesMissedFrom};
+ghost use Rattle.folder_questions.specs.MissedNotes.{NotesMissed, NotesMissedFrom};
 
-use crate::gaps::missed_notes;
-use epc_core::Epc;
-use event_json::SiteNo;
+use crate::missed_notes::missed_notes;
 use recall_outcomes::Notes;
 use site_core::SiteState;
 use site_recovery::{CheckFault, Misfit, captured, check_world};
@@ -17,20 +15,20 @@ use std::alloc::{AllocError, Global};
 use trace_core::{Pair, reach};
 
 /// What is noted beside pairs that are told of an item: how the records contradict each other, and else those of the
-/// pairs that are missed, and how many items lie in the item.
+/// pairs that are missed, what a recall of the item misses by that, and how many items lie in it.
 pub(crate) fn notes_beside(
     alloc: Global,
     records: &[&SiteState],
     pairs: &[Pair],
-    item: &Epc,
+    root: &Pair,
 ) -> Result<Notes, AllocError>
     requires all { AreAllSites (records_at records.now) }
     ensures { IfOk result (Beside (records_at records.now)
-        (NotesMissed (records_at records.now) pairs.now item.now)) }
+        (NotesMissed (records_at records.now) pairs.now root.now)) }
 {
     match misfit_in(alloc, records)? {
         Some(misfit) => Ok(Notes::Misfit(misfit)),
-        None => missed_notes(alloc, records, pairs, item),
+        None => missed_notes(alloc, records, pairs, root),
     }
 }
 
@@ -38,20 +36,15 @@ pub(crate) fn notes_beside(
 pub(crate) fn notes_from(
     alloc: Global,
     records: &[&SiteState],
-    site: SiteNo,
-    item: &Epc,
+    root: &Pair,
 ) -> Result<Notes, AllocError>
     requires all { AreAllSites (records_at records.now) }
     ensures { IfOk result (Beside (records_at records.now)
-        (NotesMissedFrom (records_at records.now) site item.now)) }
+        (NotesMissedFrom (records_at records.now) root.now)) }
 {
-    let root = Pair {
-        site,
-        item: item.copy(alloc)?,
-    };
     let captured = captured(alloc, records)?;
-    let pairs = reach(alloc, captured.as_slice(), &root)?;
-    notes_beside(alloc, records, pairs.as_slice(), item)
+    let pairs = reach(alloc, captured.as_slice(), root)?;
+    notes_beside(alloc, records, pairs.as_slice(), root)
 }
 
 /// What is noted where nothing can be missed: how the records contradict each other.
@@ -66,7 +59,7 @@ pub(crate) fn misfit_notes(alloc: Global, records: &[&SiteState]) -> Result<Note
 }
 
 /// How the records contradict each other, if they do.
-fn misfit_in(alloc: Global, records: &[&SiteState]) -> Result<Option<Misfit>, AllocError>
+pub(crate) fn misfit_in(alloc: Global, records: &[&SiteState]) -> Result<Option<Misfit>, AllocError>
     requires all { AreAllSites (records_at records.now) }
     ensures { IfOk result (Contradict (records_at records.now)) }
 {

@@ -17,6 +17,7 @@ use recall_outcomes::{CommandRefusal, Notes, Outcome};
 use site_core::{Effects, Refusal, SiteInput, SiteState, Stepped, step};
 use site_folders::{Question, refusal};
 use std::alloc::{AllocError, Global};
+use trace_core::Pair;
 
 /// How many items of the site of a name the start of a recall would quarantine there, and how many messages it would
 /// have for other sites; and beside that, what the recall would miss at all sites, and how many items lie in the one
@@ -78,7 +79,11 @@ fn dry_start(
     ensures { IfOk result (λ told.
         AnswersDryStart (records_at records.now) site item told.0 told.1) }
 {
-    let notes = notes_from(alloc, records, site, &item)?;
+    let root = Pair {
+        site,
+        item: item.copy(alloc)?,
+    };
+    let notes = notes_from(alloc, records, &root)?;
     let Some(state) = record_of(records, site) else {
         return Ok((unknown(alloc)?, notes));
     };

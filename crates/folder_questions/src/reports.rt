@@ -66,12 +66,8 @@ impl Question for ReportOf<'_> {
     ) -> Result<(Outcome, Notes), AllocError> {
         match told_report(alloc, records, recall, self.ways, self.events) {
             Ok((report, events)) => {
-                let notes = notes_beside(
-                    alloc,
-                    records,
-                    report.pairs.as_slice(),
-                    &report.root.item,
-                )?;
+                let pairs = report.pairs.as_slice();
+                let notes = notes_beside(alloc, records, pairs, &report.root)?;
                 let outcome = Outcome::Reported {
                     recall,
                     report,

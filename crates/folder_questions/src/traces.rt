@@ -97,7 +97,7 @@ fn forward_of(
 {
     match told_trace(alloc, records, site, item, ways, events) {
         Ok((trace, events)) => {
-            let notes = notes_beside(alloc, records, trace.pairs.as_slice(), item)?;
+            let notes = notes_beside(alloc, records, trace.pairs.as_slice(), &trace.root)?;
             let outcome = Outcome::Traced {
                 trace,
                 ways,
@@ -185,7 +185,7 @@ fn told_back(
 }
 
 /// An item that isn't known is refused as the start of its recall would be.
-fn untraced(alloc: Global, fault: TraceFault) -> Result<Outcome, AllocError>
+pub(crate) fn untraced(alloc: Global, fault: TraceFault) -> Result<Outcome, AllocError>
     ensures answered { IfOk result (λ outcome. (fault ≡ TraceFault.UnknownItem)
         × IsRefusal (Step UnknownItem) outcome) }
 {
