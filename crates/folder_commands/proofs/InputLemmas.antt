@@ -4,7 +4,6 @@ use Rattle.std.specs.Prelude.{IsUtf8}
 use Rattle.item_spellings.specs.Keys.{item_reading, reading_by}
 use Rattle.item_spellings.specs.declared.faults.SpellingFault.{SpellingFault}
 use Rattle.item_spellings.specs.declared.spellings.Spelling.{Spelling}
-use Rattle.event_json.specs.Untraced.{text_untraced}
 use Rattle.event_json.specs.declared.untraced.Untraced.{Untraced}
 use Rattle.recall_outcomes.specs.Batches.{up}
 use Rattle.recall_outcomes.specs.declared.batches.InputOutcome.{InputOutcome}
@@ -21,7 +20,7 @@ use Rattle.world_core.specs.Parts.{came_in}
 use Rattle.site_folders.specs.Missing.{CountsOwn}
 use Rattle.folder_commands.specs.Inputs.{AreNoted, AsksStep, NotesItem, NotesSpelled, ReadsAs, came_of}
 use Rattle.folder_commands.specs.Steps.{Steps}
-use Rattle.folder_commands.specs.Untraced.{with_untraced}
+use Rattle.folder_commands.specs.Untraced.{TellsUntraced, with_untraced}
 use Rattle.folder_commands.specs.declared.inputs.Doing.{Doing}
 use Rattle.folder_commands.specs.declared.inputs.Doing.TheVariants as doings
 use Rattle.folder_commands.specs.declared.inputs.InputNotes.{InputNotes}
@@ -73,18 +72,18 @@ steps_to old None input done steps = absurd steps
 steps_to old (Some new) input done steps = (new, refl, steps)
 
 -- what a document that was captured says that isn't traced is noted
-pub document_noted : (old : Record) (document : List ℕ) (effects : Effects) (came : InputOutcome) (untraced : Untraced) (before after : InputNotes) → came_of effects ≡ Some came
-    → text_untraced old.sites document ≡ Ok untraced → after ≡ record before { untraced = with_untraced before.untraced untraced } → (new : Record)
+pub document_noted : (old : Record) (document : List ℕ) (effects : Effects) (came : InputOutcome) (untraced : Untraced) (places : List (List ℕ)) (before after : InputNotes) → came_of effects ≡ Some came
+    → TellsUntraced old.sites document before.places untraced places → after ≡ record before { untraced = with_untraced before.untraced untraced; places = places } → (new : Record)
     → Steps old (Capture document) (Some new) (Ok effects) → AreNoted doings.Capture old document came before after
-document_noted old document (told.Captured fresh known skipped) came untraced before after is found counts new does =
-    subst (λ c. AreNoted doings.Capture old document c before after) (let same : inputs.Captured fresh known skipped ≡ came = cc in same) (untraced, found, counts)
-document_noted old document (told.Started r quarantined numbered ended) came untraced before after is found counts new does = absurd does
-document_noted old document (told.Received quarantined numbered owed) came untraced before after is found counts new does = absurd does
-document_noted old document told.Repeat came untraced before after is found counts new does = absurd does
-document_noted old document told.Stale came untraced before after is found counts new does = absurd does
-document_noted old document told.Cleared came untraced before after is found counts new does = absurd does
-document_noted old document (told.ParentDue m) came untraced before after is found counts new does = absurd does
-document_noted old document (told.Ended r) came untraced before after is found counts new does = absurd does
+document_noted old document (told.Captured fresh known skipped) came untraced places before after is found counts new does =
+    subst (λ c. AreNoted doings.Capture old document c before after) (let same : inputs.Captured fresh known skipped ≡ came = cc in same) (untraced, places, found, counts)
+document_noted old document (told.Started r quarantined numbered ended) came untraced places before after is found counts new does = absurd does
+document_noted old document (told.Received quarantined numbered owed) came untraced places before after is found counts new does = absurd does
+document_noted old document told.Repeat came untraced places before after is found counts new does = absurd does
+document_noted old document told.Stale came untraced places before after is found counts new does = absurd does
+document_noted old document told.Cleared came untraced places before after is found counts new does = absurd does
+document_noted old document (told.ParentDue m) came untraced places before after is found counts new does = absurd does
+document_noted old document (told.Ended r) came untraced places before after is found counts new does = absurd does
 
 -- and so is how many items lie in one of which a recall was started
 pub item_noted : (old : Record) (item : List ℕ) (effects : Effects) (came : InputOutcome) (n : ℕ) (before after : InputNotes) → came_of effects ≡ Some came → CountsOwn old item n

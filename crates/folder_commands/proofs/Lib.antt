@@ -5,9 +5,12 @@ pub mod CopyLemmas
 pub mod DocumentLemmas
 pub mod InputLemmas
 pub mod LintLemmas
+pub mod ListedLemmas
 pub mod MakingLemmas
 pub mod NoteLaws
 pub mod NoteLemmas
+pub mod PlaceLaws
+pub mod PlaceLemmas
 pub mod RoundLemmas
 pub mod RunLemmas
 pub mod StepLemmas

@@ -2,7 +2,6 @@
 use Rattle.std.proofs.Common.{◌≡◌, ◌⊎◌, ℕ, List, [], ◌∷◌, inl, inr, refl, sym, subst, Option, Some, None, Result, Ok, Err, IfOk}
 use Rattle.std.specs.Prelude.{IsErr, IsErrAnd, MatchResult}
 use Rattle.event_json.specs.Sites.{Site, named}
-use Rattle.event_json.specs.Untraced.{text_untraced}
 use Rattle.event_json.specs.declared.documents.Doc.{Doc}
 use Rattle.event_json.specs.declared.untraced.Untraced.{Untraced}
 use Rattle.item_spellings.specs.Keys.{item_reading}
@@ -31,6 +30,7 @@ use Rattle.site_folders.specs.Refusals.{IsNoSite, IsRefusal, refusal_of}
 use Rattle.site_folders.proofs.CallsInTurn.{behind_list, led_so, led_then}
 use Rattle.site_folders.proofs.VainLemmas.{asks_first, lists_ask, none_asks, opens_behind, ran_out, vain_listed}
 use Rattle.folder_commands.specs.Steps.{AtSite, BreaksCapture, BreaksStart, BreaksStep, CaptureFails, CapturesAt, CapturesFile, FailsStep, IsUntraced, NotesDone, NotesStart, StartFails, StartsAt, StartsItem, Steps, StepsAt, TellsStep}
+use Rattle.folder_commands.specs.Untraced.{TellsUntraced}
 
 -- ---- results
 
@@ -103,16 +103,20 @@ captured_read old new document told.Cleared does = absurd does
 captured_read old new document (told.ParentDue m) does = absurd does
 captured_read old new document (told.Ended r) does = absurd does
 
--- this is what a document says that isn't traced, if it is one
-abbrev pub Finds : List Site → List ℕ → Untraced → Type 0
-Finds sites document untraced = (doc : Doc) → IsReadAs sites document (Ok doc) → text_untraced sites document ≡ Ok untraced
+-- this is what is told of a document that isn't traced, if it is one
+abbrev pub Finds : List Site → List ℕ → List (List ℕ) → Untraced → List (List ℕ) → Type 0
+Finds sites document named untraced places = (doc : Doc) → IsReadAs sites document (Ok doc) → TellsUntraced sites document named untraced places
 
 -- so of one that was captured
-pub captured_found : (old : Record) (shown : Option Record) (document : List ℕ) (done : Result Effects Refusal) (untraced : Untraced) → Steps old (Capture document) shown done
-    → Finds old.sites document untraced → IsUntraced old.sites document done untraced
-captured_found old None document done untraced does finds = absurd does
-captured_found old (Some new) document (Ok effects) untraced does finds = let read = captured_read old new document effects does in finds read.0 read.1
-captured_found old (Some new) document (Err why) untraced does finds = tt
+pub captured_tells : (old : Record) (shown : Option Record) (document : List ℕ) (effects : Effects) (named : List (List ℕ)) (untraced : Untraced) (places : List (List ℕ)) → Steps old (Capture document) shown (Ok effects)
+    → Finds old.sites document named untraced places → TellsUntraced old.sites document named untraced places
+captured_tells old None document effects named untraced places does finds = absurd does
+captured_tells old (Some new) document effects named untraced places does finds = let read = captured_read old new document effects does in finds read.0 read.1
+
+pub captured_found : (old : Record) (shown : Option Record) (document : List ℕ) (done : Result Effects Refusal) (untraced : Untraced) (places : List (List ℕ)) → Steps old (Capture document) shown done
+    → Finds old.sites document [] untraced places → IsUntraced old.sites document done untraced places
+captured_found old shown document (Ok effects) untraced places does finds = captured_tells old shown document effects [] untraced places does finds
+captured_found old shown document (Err why) untraced places does finds = tt
 
 -- ---- the commands
 
@@ -201,18 +205,18 @@ module _ {F K : Type 0} (does : F → FileCall K → F → Type 0) (shown : K �
         (record { calls = calls; are = record { site = site; known = known; item = item; read = read; step = broke }; led = led }))
 
   -- the document was captured or refused
-  pub capture_done : (name file : List ℕ) (old first mid new : F) (sites : List Site) (site : ℕ) (document : List ℕ) (done : Result Effects Refusal) (untraced : Untraced) (output : Output) → Led does old first (ListsSites folder sites)
+  pub capture_done : (name file : List ℕ) (old first mid new : F) (sites : List Site) (site : ℕ) (document : List ℕ) (done : Result Effects Refusal) (untraced : Untraced) (places : List (List ℕ)) (output : Output) → Led does old first (ListsSites folder sites)
       → named sites name ≡ Some site → does first (ReadFile file document) mid → Led does mid new (StepsAt shown stored folder sites site (Capture document) done) → output.sites ≡ sites
-      → TellsStep done output.outcome → Finds sites document untraced → NotesDone untraced done output.notes → Led does old new (CapturesAt shown stored folder name file output)
-  capture_done name file old first mid new sites site document done untraced output listed known read step same tells finds noted =
+      → TellsStep done output.outcome → Finds sites document [] untraced places → NotesDone untraced places done output.notes → Led does old new (CapturesAt shown stored folder name file output)
+  capture_done name file old first mid new sites site document done untraced places output listed known read step same tells finds noted =
       let at = step.are in
       let lists = at.opened.shows.lists in
-      let found = subst (λ ss. IsUntraced ss document done untraced) lists
-      (captured_found at.before (shown at.after) document done untraced at.stepped (subst (λ ss. Finds ss document untraced) (sym lists) finds)) in
+      let found = subst (λ ss. IsUntraced ss document done untraced places) lists
+      (captured_found at.before (shown at.after) document done untraced places at.stepped (subst (λ ss. Finds ss document [] untraced places) (sym lists) finds)) in
       at_some does folder name (λ ss. CapturesFile shown stored folder ss file) output old first new sites site listed known same
       (record {
         calls = ReadFile file document ∷ step.calls;
-        are = record { document = document; done = done; rest = step.calls; steps = step.are; told = tells; untraced = untraced; is_untraced = found; noted = noted; calls_are = refl };
+        are = record { document = document; done = done; rest = step.calls; steps = step.are; told = tells; untraced = untraced; places = places; is_untraced = found; noted = noted; calls_are = refl };
         led = (mid, read, step.led);
       })
 

@@ -21,6 +21,7 @@ use Rattle.folder_commands.specs.declared.batches.BatchCame.TheVariants as batch
 use Rattle.folder_commands.specs.declared.batches.BatchOutput.{BatchOutput}
 use Rattle.folder_commands.specs.declared.batches.BatchRun.{BatchRun}
 use Rattle.folder_commands.specs.declared.batches.Counts.{Counts}
+use Rattle.folder_commands.specs.declared.inputs.InputNotes.{InputNotes}
 
 -- how a batch stands between two inputs: the record that the site shows, who is told, and what the inputs came to so far
 pub record Standing (S : Type 0) : Type 0 where
@@ -31,9 +32,13 @@ pub record Standing (S : Type 0) : Type 0 where
 abbrev pub standing : {S : Type 0} → Record → S → Counts → Standing S
 standing site sink counts = record { site = site; sink = sink; counts = counts }
 
+-- nothing is noted
+abbrev pub no_notes : InputNotes
+no_notes = record { untraced = none_untraced; places = []; inside = 0 }
+
 -- before the first input
 abbrev pub no_counts : Task → Counts
-no_counts task = record { totals = none_yet task; noted = record { untraced = none_untraced; inside = 0 } }
+no_counts task = record { totals = none_yet task; noted = no_notes }
 
 module _ {S : Type 0} (takes : S → List Site → List ℕ → InputOutcome → S → Type 0) (sites : List Site) where
   -- an input was taken or refused, and was told of; it counts, and what there is to note of it was added to what was noted before

@@ -1,6 +1,5 @@
 -- What comes of one input at a site: a document that it captures, or a text that spells an item of which it starts a recall.
 use Rattle.std.specs.Prelude.{◌≡◌, ◌⊎◌, ℕ, List, Option, Some, None, Result, Ok, Err, IsUtf8, string_bytes}
-use Rattle.event_json.specs.Untraced.{text_untraced}
 use Rattle.event_json.specs.declared.untraced.Untraced.{Untraced}
 use Rattle.item_spellings.specs.Keys.{reading_by}
 use Rattle.item_spellings.specs.declared.faults.ScanFault.TheVariants.{NoElements}
@@ -23,7 +22,7 @@ use Rattle.site_core.specs.declared.outcomes.Refusal.{Refusal}
 use Rattle.site_folders.specs.Missing.{CountsOwn}
 use Rattle.site_folders.specs.Refusals.{refusal_of}
 use Rattle.folder_commands.specs.Steps.{FailsStep, Steps}
-use Rattle.folder_commands.specs.Untraced.{with_untraced}
+use Rattle.folder_commands.specs.Untraced.{TellsUntraced, with_untraced}
 use Rattle.folder_commands.specs.declared.inputs.Doing.{Doing}
 use Rattle.folder_commands.specs.declared.inputs.Doing.TheVariants as doings
 use Rattle.folder_commands.specs.declared.inputs.Given.{Given}
@@ -94,10 +93,12 @@ NotesSpelled spelling old text (Started r new messages ended) before after =
     (item : List ℕ) × ReadsAs spelling text (Ok item) × NotesItem old item (Started r new messages ended) before after
 NotesSpelled spelling old text other before after = after ≡ before
 
--- what a document that was captured says that isn't traced is noted, too; any other input adds nothing
+-- what a document that was captured says that isn't traced is noted, too, and destinations that are no traced site; any other input
+-- adds nothing
 abbrev pub AreNoted : Doing → Record → List ℕ → InputOutcome → InputNotes → InputNotes → Type 0
 AreNoted doings.Capture old document (Captured fresh known skipped) before after =
-    (untraced : Untraced) × (text_untraced old.sites document ≡ Ok untraced) × (after ≡ record before { untraced = with_untraced before.untraced untraced })
+    (untraced : Untraced) × (places : List (List ℕ)) × TellsUntraced old.sites document before.places untraced places
+    × (after ≡ record before { untraced = with_untraced before.untraced untraced; places = places })
 AreNoted doings.Capture old document other before after = after ≡ before
 AreNoted (doings.Start spelling) old text came before after = NotesSpelled spelling old text came before after
 

@@ -3,10 +3,12 @@ pub mod CopyLaws
 pub mod Copying
 pub mod Inputs
 pub mod Lints
+pub mod Listed
 pub mod Making
 pub mod Missing
 pub mod NoteLaws
 pub mod Notes
+pub mod PlaceLaws
 pub mod Runs
 pub mod Steps
 pub mod Untraced

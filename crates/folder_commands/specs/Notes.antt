@@ -2,6 +2,7 @@
 use Rattle.std.specs.Prelude.{◌≡◌, ◌≢◌, ◌==◌, ◌≤◌, ℕ, ◌+◌, not, nat_lt, if◌then◌else◌, List, [], ◌∷◌, ◌++◌, length, Option, Some, None, string_bytes}
 use Rattle.std.specs.List.{AllZip, list_any}
 use Rattle.event_json.specs.Sites.{Site}
+use Rattle.recall_outcomes.specs.Missed.{IsNoReach}
 use Rattle.recall_outcomes.specs.declared.notes.Notes.{Notes}
 use Rattle.recall_outcomes.specs.declared.notes.Notes.TheVariants as notes
 use Rattle.recall_outcomes.specs.declared.notes.RunNotes.{RunNotes}
@@ -54,7 +55,8 @@ pub record AreOfSites (before after : List ℕ) (lists : List RunLog) : Type 0 w
 -- what open recalls miss, if they miss anything
 abbrev pub NotesMissed : List Pair → Notes → Type 0
 NotesMissed missed notes.Nothing = missed ≡ []
-NotesMissed missed (notes.Missed found) = (found.pairs.items ≡ missed) × (missed ≢ []) × (found.inside ≡ 0)
+NotesMissed missed (notes.Missed found) =
+    (found.pairs.items ≡ missed) × (missed ≢ []) × (found.containers.items ≡ []) × IsNoReach found.reach × (found.inside ≡ 0)
 NotesMissed missed other = ⊥
 
 module _ (knows : List ℕ → List ℕ → Type 0) (folder : List ℕ) (sites : List Site) where

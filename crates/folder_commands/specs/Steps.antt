@@ -1,7 +1,6 @@
 -- What a step of one site comes to, and what `capture` and `start` tell of it.
 use Rattle.std.specs.Prelude.{◌≡◌, ◌⊎◌, ⊤, ℕ, List, [], ◌∷◌, Option, Some, None, Result, Ok, Err}
 use Rattle.event_json.specs.Sites.{Site, named}
-use Rattle.event_json.specs.Untraced.{text_untraced}
 use Rattle.event_json.specs.declared.untraced.Untraced.{Untraced}
 use Rattle.item_spellings.specs.Keys.{item_reading}
 use Rattle.item_spellings.specs.declared.faults.SpellingFault.{SpellingFault}
@@ -27,6 +26,7 @@ use Rattle.site_folders.specs.Keepers.{KeepsSite, opens_site}
 use Rattle.site_folders.specs.Lists.{AfterList}
 use Rattle.site_folders.specs.Missing.{CountsOwn, NotesInside}
 use Rattle.site_folders.specs.Refusals.{IsNoSite, IsRefusal, refusal_of}
+use Rattle.folder_commands.specs.Untraced.{TellsUntraced}
 
 -- ---- a step
 
@@ -50,15 +50,16 @@ abbrev pub TellsStep : Result Effects Refusal → Outcome → Type 0
 TellsStep (Ok effects) outcome = outcome ≡ Stepped effects
 TellsStep (Err why) outcome = IsRefusal (Step why) outcome
 
--- of a document that was captured it is noted that this isn't traced, and of one that was refused nothing
-abbrev pub NotesDone : Untraced → Result Effects Refusal → Notes → Type 0
-NotesDone untraced (Ok effects) noted = noted ≡ notes.Untraced untraced
-NotesDone untraced (Err why) noted = noted ≡ notes.Nothing
+-- of a document that was captured it is noted that this isn't traced, with these destinations, and of one that was refused nothing
+abbrev pub NotesDone : Untraced → List (List ℕ) → Result Effects Refusal → Notes → Type 0
+NotesDone untraced places (Ok effects) (notes.Untraced told) = (told.counts ≡ untraced) × (told.places.items ≡ places)
+NotesDone untraced places (Ok effects) other = ⊥
+NotesDone untraced places (Err why) noted = noted ≡ notes.Nothing
 
--- and that is what it says that isn't
-abbrev pub IsUntraced : List Site → List ℕ → Result Effects Refusal → Untraced → Type 0
-IsUntraced sites document (Ok effects) untraced = text_untraced sites document ≡ Ok untraced
-IsUntraced sites document (Err why) untraced = ⊤
+-- and that is what it says that isn't, with destinations that are no traced site: all of them, or five
+abbrev pub IsUntraced : List Site → List ℕ → Result Effects Refusal → Untraced → List (List ℕ) → Type 0
+IsUntraced sites document (Ok effects) untraced places = TellsUntraced sites document [] untraced places
+IsUntraced sites document (Err why) untraced places = ⊤
 
 -- of a recall that was started it is noted how many items lie in its item, if any do, and of one that was refused nothing
 abbrev pub NotesStart : ℕ → Result Effects Refusal → Notes → Type 0
@@ -79,7 +80,7 @@ module _ {K : Type 0} (shown : K → Option Record) (stored : K → Type 0) (fol
     pub lasts : stored after
     pub calls_are : calls ≡ opens_site folder sites site keeper ∷ ClosedSite after ∷ []
 
-  -- the document's file was read, and it was captured, or refused; it is noted what of it isn't traced
+  -- the document's file was read, and it was captured, or refused; it is noted what of it isn't traced, and where it went then
   pub record CapturesFile (file : List ℕ) (site : ℕ) (output : Output) (calls : List (FileCall K)) : Type 0 where
     pub document : List ℕ
     pub done : Result Effects Refusal
@@ -87,8 +88,9 @@ module _ {K : Type 0} (shown : K → Option Record) (stored : K → Type 0) (fol
     pub steps : StepsAt site (Capture document) done rest
     pub told : TellsStep done output.outcome
     pub untraced : Untraced
-    pub is_untraced : IsUntraced sites document done untraced
-    pub noted : NotesDone untraced done output.notes
+    pub places : List (List ℕ)
+    pub is_untraced : IsUntraced sites document done untraced places
+    pub noted : NotesDone untraced places done output.notes
     pub calls_are : calls ≡ ReadFile file document ∷ rest
 
   -- a recall of the item was started, or refused; it is noted what lies in the item, by the site's own packings

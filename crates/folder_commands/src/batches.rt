@@ -4,18 +4,19 @@
 ghost use Rattle.std.specs.Prelude.{◌≡◌, [], ◌∷◌, IfErr, IfOk, map};
 ghost use Rattle.recall_outcomes.specs.Batches.{none_yet};
 ghost use Rattle.site_folders.specs.FileCalls.{Led};
-ghost use Rattle.folder_commands.specs.Batches.{BatchFails, TakesAll, TakesEach, TakesRead, no_counts};
+ghost use Rattle.folder_commands.specs.Batches.{BatchFails, TakesAll, TakesEach, TakesRead, no_counts, no_notes};
 ghost use Rattle.folder_commands.specs.Inputs.{input_of};
 ghost use Rattle.folder_commands.specs.Words.{BeginsLines, BeginsWord, BeginsWords, ReadsLines, ReadsWord, ReadsWords, Texts, Words};
 
 use crate::inputs::{Doing, Given, InputNotes, done_with};
 use crate::untraced::none_untraced;
 use crate::words::{Batch, WordKind, line_input, read_document, read_events, task_of, word_input};
-use event_json::Sites;
+use event_json::{Sequence, Sites};
 use keeper_core::SiteKeeper;
 use recall_outcomes::{Fault, InputOutcome, Outcome, Task, Totals};
 use site_folders::{Files, no_site, open_site, sites_of};
 use std::alloc::Global;
+use std::mem;
 
 /// Writes to an output what came of each input, one after another, as soon as it is kept.
 pub trait InputSink<W> {
@@ -57,7 +58,7 @@ pub enum BatchCame {
 }
 
 /// What the inputs so far came to, and what is noted of them.
-#[derive(Clone, Copy, Debug)]
+#[derive(Debug, Drop)]
 pub(crate) struct Counts {
     pub(crate) totals: Totals,
     pub(crate) noted: InputNotes,
@@ -113,7 +114,7 @@ pub fn take_inputs<K: SiteKeeper, F: Files<K>, W, S: InputSink<W>>(
         });
     };
     let keeper = open_site(alloc, files, folder, &sites, number)?;
-    let counts = no_counts(task_of(batch.kind));
+    let counts = no_counts(alloc, task_of(batch.kind));
     let mut run = BatchRun {
         alloc,
         sites,
@@ -165,7 +166,7 @@ pub fn take_texts<K: SiteKeeper, F: Files<K>, W, S: InputSink<W>>(
         });
     };
     let keeper = open_site(alloc, files, folder, &sites, number)?;
-    let counts = no_counts(task);
+    let counts = no_counts(alloc, task);
     let mut run = BatchRun {
         alloc,
         sites,
@@ -185,15 +186,23 @@ pub fn take_texts<K: SiteKeeper, F: Files<K>, W, S: InputSink<W>>(
 }
 
 /// Before the first input.
-fn no_counts(task: Task) -> Counts
+fn no_counts(alloc: Global, task: Task) -> Counts
     ensures { result ≡ no_counts task }
 {
     Counts {
         totals: Totals::new(task),
-        noted: InputNotes {
-            untraced: none_untraced(),
-            inside: 0,
-        },
+        noted: no_notes(alloc),
+    }
+}
+
+/// Nothing is noted.
+fn no_notes(alloc: Global) -> InputNotes
+    ensures { result ≡ no_notes }
+{
+    InputNotes {
+        untraced: none_untraced(),
+        places: Sequence::new(alloc),
+        inside: 0,
     }
 }
 
@@ -302,16 +311,16 @@ fn take<K: SiteKeeper, W, S: InputSink<W>>(
     ensures { TakesEach K.shown K.may K.stored (S.takes sink.now) (input_of input ∷ []) run.old run.new
         output.old output.new result }
 {
-    let Counts { totals, noted } = run.counts;
     let Given {
         doing,
         source,
         bytes,
     } = input;
+    let noted = mem::replace(&mut run.counts.noted, no_notes(run.alloc));
     let (came, noted) = done_with(run.alloc, &mut run.keeper, doing, bytes, noted)?;
     sink.take(output, &run.sites, source.as_str(), &came)?;
     run.counts = Counts {
-        totals: totals.with(&came),
+        totals: run.counts.totals.with(&came),
         noted,
     };
     Ok(())

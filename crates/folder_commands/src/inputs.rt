@@ -2,7 +2,6 @@
 //! recall.
 
 ghost use Rattle.std.specs.Prelude.{◌≡◌, Ok, Result, Some, IfErr, IfOk, MatchResult};
-ghost use Rattle.event_json.specs.Untraced.{text_untraced};
 ghost use Rattle.event_json.specs.declared.documents.Doc.{Doc};
 ghost use Rattle.site_core.specs.Records.{Record};
 ghost use Rattle.site_core.specs.Steps.{IsReadAs};
@@ -10,11 +9,12 @@ ghost use Rattle.site_core.specs.declared.outcomes.Effects.{Effects};
 ghost use Rattle.site_core.specs.declared.outcomes.Refusal.{Refusal};
 ghost use Rattle.folder_commands.specs.Inputs.{AreNoted, ComesTo, FailsInput, NotesItem, ReadsAs, TellsInput, came_of, unread};
 ghost use Rattle.folder_commands.specs.Steps.{FailsStep, Steps};
+ghost use Rattle.folder_commands.specs.Untraced.{TellsUntraced};
 
 use crate::steps::{inside_of, step};
-use crate::untraced::{untraced_of, with_untraced};
+use crate::untraced::{told_of, with_untraced};
 use epc_core::Epc;
-use event_json::{Sequence, Untraced};
+use event_json::{PlainText, Sequence, Untraced};
 use item_spellings::{ScanFault, Spelled, Spelling, SpellingFault, read_item};
 use keeper_core::SiteKeeper;
 use recall_outcomes::{CommandRefusal, Fault, InputOutcome};
@@ -33,10 +33,13 @@ pub enum Doing {
 }
 
 /// What is noted of inputs that were taken. Each count is at most 2^64 - 1, and stays there.
-#[derive(Clone, Copy, Debug)]
+#[derive(Debug, Drop)]
 pub struct InputNotes {
     /// What the documents that were captured say and isn't traced, added up.
     pub untraced: Untraced,
+    /// Destinations of those documents that are no traced site: at most five, each once. A document that has any is
+    /// parsed once more for them, unless five are named already.
+    pub places: Sequence<PlainText>,
     /// How many items lie in those of which recalls were started, by the packings that the site captured, added up: the
     /// recalls hold none of them.
     pub inside: u64,
@@ -84,28 +87,37 @@ fn captured<K: SiteKeeper>(
         (FailsInput Doing.Capture old document.items (K.shown keeper.new) (K.may keeper.new)) }
     ensures stored { K.stored keeper.old → K.stored keeper.new }
 {
-    let untraced = untraced_at(alloc, keeper, document.as_slice())?;
+    let (untraced, places) = told_at(alloc, keeper, document.as_slice(), &noted.places)?;
     let done = step(keeper, SiteInput::Capture(Sequence::from_vec(document)))?;
     match done {
         Ok(effects) => {
-            let untraced = with_untraced(noted.untraced, untraced);
-            let inside = noted.inside;
-            Ok((came_of(effects), InputNotes { untraced, inside }))
+            let notes = InputNotes {
+                untraced: with_untraced(noted.untraced, untraced),
+                places,
+                inside: noted.inside,
+            };
+            Ok((came_of(effects), notes))
         }
         Err(why) => Ok((InputOutcome::Refused(CommandRefusal::Step(why)), noted)),
     }
 }
 
-/// What a document says that isn't traced by the sites of the record that a keeper shows.
-fn untraced_at<K: SiteKeeper>(alloc: Global, keeper: &K, document: &[u8]) -> Result<Untraced, Fault>
+/// What is told of a document that isn't traced by the sites of the record that a keeper shows, where these
+/// destinations were named.
+fn told_at<K: SiteKeeper>(
+    alloc: Global,
+    keeper: &K,
+    document: &[u8],
+    named: &Sequence<PlainText>,
+) -> Result<(Untraced, Sequence<PlainText>), Fault>
     ensures found { (old : Record) → K.shown keeper.now ≡ Some old → (doc : Doc)
         → IsReadAs old.sites document.now (Ok doc)
-        → IfOk result (λ untraced. text_untraced old.sites document.now ≡ Ok untraced) }
+        → IfOk result (λ told. TellsUntraced old.sites document.now named.now told.0 told.1) }
     ensures failed { (old : Record) → K.shown keeper.now ≡ Some old
         → IfErr result (λ fault. fault ≡ Fault.NoMemory) }
 {
     match keeper.view() {
-        Some(state) => untraced_of(alloc, document, state.sites()),
+        Some(state) => told_of(alloc, document, state.sites(), named),
         None => Err(Fault::Closed),
     }
 }
@@ -150,9 +162,17 @@ fn started_of<K: SiteKeeper>(
     let done = step(keeper, SiteInput::Start(item))?;
     match done {
         Ok(effects) => {
-            let untraced = noted.untraced;
-            let inside = noted.inside.saturating_add(count);
-            Ok((came_of(effects), InputNotes { untraced, inside }))
+            let InputNotes {
+                untraced,
+                places,
+                inside,
+            } = noted;
+            let notes = InputNotes {
+                untraced,
+                places,
+                inside: inside.saturating_add(count),
+            };
+            Ok((came_of(effects), notes))
         }
         Err(why) => Ok((InputOutcome::Refused(CommandRefusal::Step(why)), noted)),
     }

@@ -7,7 +7,7 @@ ghost use Rattle.recall_outcomes.specs.declared.outcomes.CommandRefusal.{Command
 ghost use Rattle.site_folders.specs.FileCalls.{Led};
 ghost use Rattle.folder_commands.specs.Lints.{AreReasons, IsUnlisted, LintFails, Lints, LintsEach, LintsOne, here_of, looking};
 
-use crate::making::{push_few, push_lines};
+use crate::listed::list_refusals;
 use document_lint::{Lint, LintTotals, Listing, lint_document};
 use event_json::{SiteNo, Sites};
 use keeper_core::SiteKeeper;
@@ -111,9 +111,7 @@ fn refusals_of(
     ensures { IfOk result (λ whys. AreReasons list.now (option_map (λ t. t.now) site.entry)
         whys.items) }
 {
-    let mut refusals = Vec::new(alloc);
-    push_lines(list.refused.as_slice(), &mut refusals)?;
-    push_few(&list.sites, &mut refusals)?;
+    let mut refusals = list_refusals(alloc, list)?;
     push_unlisted(alloc, &list.sites, site, &mut refusals)?;
     Ok(refusals)
 }

@@ -140,21 +140,18 @@ pub(crate) fn notes_of<K: SiteKeeper, F: Files<K>>(
             unended: end.unended,
             missed,
         })),
-        None => Ok(missed_notes(missed)),
+        None => Ok(missed_notes(alloc, missed)),
     }
 }
 
 /// What open recalls miss, if they miss anything.
-fn missed_notes(missed: Vec<Pair>) -> Notes
+fn missed_notes(alloc: Global, missed: Vec<Pair>) -> Notes
     ensures { NotesMissed missed.items result }
 {
     if missed.is_empty() {
         Notes::Nothing
     } else {
-        Notes::Missed(MissedItems {
-            pairs: missed,
-            inside: 0,
-        })
+        Notes::Missed(MissedItems::of(alloc, missed, 0))
     }
 }
 

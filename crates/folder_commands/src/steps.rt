@@ -9,20 +9,21 @@ ghost use Rattle.site_folders.specs.FileCalls.{Led};
 ghost use Rattle.site_folders.specs.Missing.{CountsOwn};
 ghost use Rattle.folder_commands.specs.Steps.{BreaksStep, CaptureFails, CapturesAt, FailsStep, NotesDone, NotesStart, StartFails, StartsAt, Steps, StepsAt, TellsStep};
 
-use crate::untraced::untraced_of;
+use crate::untraced::told_of;
 use epc_core::Epc;
-use event_json::{Sequence, SiteNo, Sites, Untraced};
+use event_json::{PlainText, Sequence, SiteNo, Sites, Untraced};
 use item_spellings::{Spelled, read_item};
 use keeper_core::{KeepFault, SiteKeeper};
-use recall_outcomes::{CommandRefusal, Fault, Notes, Outcome, Output};
+use recall_outcomes::{CommandRefusal, Fault, Notes, Outcome, Output, UntracedNotes};
 use site_core::{Effects, Refusal, SiteInput};
 use site_folders::{
     Files, count_inside, inside_notes, no_site, open_site, refusal, sites_of, unspelled,
 };
 use std::alloc::{AllocError, Global};
 
-/// Captures the document in a file at a site of a folder. The notes of a captured document say what isn't traced; a
-/// refused one has none.
+/// Captures the document in a file at a site of a folder. The notes of a captured document say what isn't traced, and
+/// name up to five of its destinations that are no traced site: where it has any, it is parsed once more for that. A
+/// refused one has no notes.
 ///
 /// # Errors
 /// In this order, each without a change: those of the folder's list, `Read` where the document can't be read, those of
@@ -37,7 +38,8 @@ pub fn capture<K: SiteKeeper, F: Files<K>>(
 ) -> Result<Output, Fault>
     // The folder's list was read, the document at the path that was given, and the site's file was opened; its record
     // took just this step or refused it, and the file was closed, on which a crash leaves the record that is shown. Of
-    // a document that was captured it is noted what isn't traced.
+    // a document that was captured it is noted what isn't traced, and its destinations that are no traced site are
+    // named: all of them, or five.
     ensures calls { IfOk result (λ output. Led F.does files.old files.new
         (CapturesAt K.shown K.stored folder.now site.now file.now output)) }
     // Nothing was changed; or the site's file was opened, the fault is that of its step, `Device` only where the count
@@ -53,10 +55,10 @@ pub fn capture<K: SiteKeeper, F: Files<K>>(
         return Ok(plain(sites, outcome));
     };
     let document = files.read(alloc, file)?;
-    let untraced = untraced_of(alloc, document.as_slice(), &sites)?;
+    let (untraced, places) = told_of(alloc, document.as_slice(), &sites, &Sequence::new(alloc))?;
     let input = SiteInput::Capture(Sequence::from_vec(document));
     let done = step_at(alloc, files, folder, &sites, number, input)?;
-    let notes = noted(&done, untraced);
+    let notes = noted(&done, untraced, places);
     let outcome = told(alloc, done)?;
     Ok(Output {
         sites,
@@ -66,11 +68,14 @@ pub fn capture<K: SiteKeeper, F: Files<K>>(
 }
 
 /// What is noted of a document that was captured, of which this isn't traced, or that was refused.
-fn noted(done: &Result<Effects, Refusal>, untraced: Untraced) -> Notes
-    ensures { NotesDone untraced done.now result }
+fn noted(done: &Result<Effects, Refusal>, untraced: Untraced, places: Sequence<PlainText>) -> Notes
+    ensures { NotesDone untraced places done.now result }
 {
     match done {
-        Ok(_) => Notes::Untraced(untraced),
+        Ok(_) => Notes::Untraced(UntracedNotes {
+            counts: untraced,
+            places: places.into_vec(),
+        }),
         Err(_) => Notes::Nothing,
     }
 }

@@ -40,7 +40,7 @@ returns g c =
           let came = c.in_ok-came.came in
           let told = subst (λ s. takes c.args.output.now sites s came c.take.new.output) c.as_str.ensures.value c.in_ok-take.ensures.taken in
           let counts = sym (ap (λ x. x.totals) at.counts) in
-          let before = ap (λ x. x.noted) at.counts in
+          let before = c.replace-noted.ensures.value ∙ sym (ap (λ x. x.noted) at.counts) in
           let end = standing new c.take.new.output (record { totals = c.with.result; noted = c.in_ok-came.noted }) in (
             end,
             record { shows = shows; hears = refl; counts = refl; lists = refl },
@@ -51,7 +51,7 @@ returns g c =
                 comes = comes;
                 told = subst (λ s. takes s sites source came c.take.new.output) (sym at.hears) told;
                 counted = c.with.ensures ∙ ap (λ (t : Totals). with_one t came) counts;
-                noted = subst (λ (u : InputNotes). AreNoted c.args.input.doing start.site c.args.input.bytes.items came u c.in_ok-came.noted) (sym before) noted;
+                noted = subst (λ (u : InputNotes). AreNoted c.args.input.doing start.site c.args.input.bytes.items came u c.in_ok-came.noted) before noted;
               },
               refl,
             ),

@@ -1,4 +1,4 @@
-use Rattle.std.proofs.Common.{◌≡◌, [], map, refl, sym, subst, ap, ◌∙◌, inl}
+use Rattle.std.proofs.Common.{◌≡◌, [], map, refl, sym, subst, ◌∙◌, inl}
 use Rattle.site_folders.proofs.CallsInTurn.{behind_list, handed_on, led_so}
 use Rattle.event_json.specs.Sites.{named}
 use Rattle.folder_commands.specs.Batches.{TakesWhere, no_counts, standing}

@@ -3,7 +3,7 @@ use Rattle.event_json.specs.declared.untraced.Untraced.{Untraced}
 use Rattle.site_core.specs.declared.inputs.SiteInput.TheVariants.{Capture}
 use Rattle.folder_commands.specs.Steps.{FailsStep, Steps}
 use Rattle.folder_commands.proofs.InputLemmas.{comes_of_step, document_noted, steps_to}
-use Rattle.folder_commands.proofs.StepLemmas.{Finds, captured_found, match_err}
+use Rattle.folder_commands.proofs.StepLemmas.{Finds, captured_tells, match_err}
 use Rattle.folder_commands.proofs.inputs.captured.Goals as goal
 
 pub returns-in_err-untraced-clause-came : goal.returns-in_err-untraced-clause-came
@@ -26,13 +26,16 @@ returns-in-Ok-clause-came g c = λ old shows.
     let document = c.args.document.items in
     let steps = subst (λ (d : List ℕ). Steps old (Capture d) (shown c.step.new.keeper) (Ok c.in-Ok.effects)) c.from_vec.ensures (rw c.in-Ok.is at (c.in_ok-done.ensures.answered old shows)) in
     let (new, is, leads) = steps_to old (shown c.step.new.keeper) (Capture document) (Ok c.in-Ok.effects) steps in
-    let finds : Finds old.sites document c.in_ok-untraced.untraced = subst (λ (b : List ℕ). Finds old.sites b c.in_ok-untraced.untraced) c.as_slice.ensures.value (c.in_ok-untraced.ensures.found old shows) in
-    let found = captured_found old (shown c.step.new.keeper) document (Ok c.in-Ok.effects) c.in_ok-untraced.untraced steps finds in (
+    let untraced = c.in_ok-untraced.untraced in
+    let places = c.in_ok-untraced.places in
+    let named = c.args.noted.places in
+    let finds : Finds old.sites document named untraced places = subst (λ (b : List ℕ). Finds old.sites b named untraced places) c.as_slice.ensures.value (c.in_ok-untraced.ensures.found old shows) in
+    let tells = captured_tells old (shown c.step.new.keeper) document c.in-Ok.effects named untraced places steps finds in (
       new,
       is,
       inl (record { input = Capture document; asks = refl; done = Ok c.in-Ok.effects; stepped = leads; told = c.came_of.ensures }),
-      document_noted old document c.in-Ok.effects c.came_of.result c.in_ok-untraced.untraced c.args.noted (record { untraced = c.with_untraced-untraced.result; inside = c.args.noted.inside }) c.came_of.ensures found
-          (ap (λ (u : Untraced). record c.args.noted { untraced = u }) c.with_untraced-untraced.ensures) new leads,
+      document_noted old document c.in-Ok.effects c.came_of.result untraced places c.args.noted (record { untraced = c.with_untraced.result; places = places; inside = c.args.noted.inside }) c.came_of.ensures tells
+          (ap (λ (u : Untraced). record c.args.noted { untraced = u; places = places }) c.with_untraced.ensures) new leads,
     )
 
 pub returns-in-Err-clause-came : goal.returns-in-Err-clause-came

@@ -22,8 +22,8 @@ returns-in-Ok-clause-came g c = λ old shows.
       Ok c.in-Ok.effects,
       leads,
       c.came_of.ensures,
-      item_noted old c.args.item c.in-Ok.effects c.came_of.result c.in_ok-count.count c.args.noted (record { untraced = c.args.noted.untraced; inside = c.saturating_add-inside.result }) c.came_of.ensures counted
-          (ap (λ (n : ℕ). record c.args.noted { inside = n }) c.saturating_add-inside.ensures) new leads,
+      item_noted old c.args.item c.in-Ok.effects c.came_of.result c.in_ok-count.count c.args.noted (record { untraced = c.args.noted.untraced; places = c.args.noted.places; inside = c.saturating_add.result }) c.came_of.ensures counted
+          (ap (λ (n : ℕ). record c.args.noted { inside = n }) c.saturating_add.ensures) new leads,
     )
 
 pub returns-in-Err-clause-came : goal.returns-in-Err-clause-came

@@ -54,3 +54,6 @@ returns-clause-failed g c =
     (λ fault. FailsRounds shown failed may reopens gives_up c.args.terms old new fault)
     (λ fault fails. fails_last shown failed may reopens gives_up c.args.terms old mid new fault c.loop.counter c.if-not-terms.false c.loop.invariant.0 fails)
     c.run_of-2.ensures.failed
+
+pub returns-in-Some-clause-stored : goal.returns-in-Some-clause-stored
+returns-in-Some-clause-stored g c = λ all. c.one_round-after.ensures.stored (c.loop.invariant.1 all)

@@ -87,6 +87,8 @@ returns-clause-calls g c =
     let done = c.in_ok-done.done in
     let untraced = c.in_ok-untraced.untraced in
     let step = subst (λ (d : List ℕ). Led g.F.Files.does c.read.new.self c.step_at.new.files (StepsAt shown stored folder sites c.in-Some.number (Capture d) done)) c.from_vec.ensures c.in_ok-done.ensures.calls in
-    let finds = subst (λ (b : List ℕ). Finds sites b untraced) c.as_slice.ensures.value c.in_ok-untraced.ensures.found in
-    capture_done g.F.Files.does shown g.K.SiteKeeper.may g.K.SiteKeeper.failed stored folder c.args.site.now c.args.file.now _ _ _ _ sites c.in-Some.number document done untraced _ c.in_ok-sites.ensures.read (sym c.find.ensures ∙ c.in-Some.is)
+    let places = c.in_ok-untraced.places in
+    let finds = subst (λ (named : List (List ℕ)). Finds sites document named untraced places) c.new.ensures
+    (subst (λ (b : List ℕ). Finds sites b c.new.result untraced places) c.as_slice.ensures.value c.in_ok-untraced.ensures.found) in
+    capture_done g.F.Files.does shown g.K.SiteKeeper.may g.K.SiteKeeper.failed stored folder c.args.site.now c.args.file.now _ _ _ _ sites c.in-Some.number document done untraced places _ c.in_ok-sites.ensures.read (sym c.find.ensures ∙ c.in-Some.is)
     c.in_ok-document.ensures.read step refl c.in_ok-outcome-2.ensures.told finds c.noted-notes.ensures
