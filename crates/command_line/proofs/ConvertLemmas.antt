@@ -1,5 +1,5 @@
 -- Conversions, file by file.
-use Rattle.std.proofs.Common.{◌≡◌, ◌+◌, ◌<◌, ℕ, Bool, Bor, true, false, List, [], ◌∷◌, ◌++◌, Option, inl, inr, map, take, drop, length, get_or, refl, sym, ap, ◌∙◌, subst, append_assoc, append-nil}
+use Rattle.std.proofs.Common.{◌≡◌, ◌+◌, ◌<◌, ℕ, Bool, Bor, true, false, List, [], ◌∷◌, ◌++◌, Option, None, Some, option_map, inl, inr, map, take, drop, length, get_or, refl, sym, ap, ◌∙◌, subst, append_assoc, append-nil}
 use Rattle.std.specs.Prelude.{◌||◌}
 use Rattle.std.specs.List.{flat_map, list_any}
 use Rattle.std.proofs.KnownBytes.{Appends-nil, Appends-trans}
@@ -9,14 +9,29 @@ use Rattle.std.proofs.lemmas.List.Folds.{list_any-append}
 use Rattle.serde_json.specs.Data.{Data}
 use Rattle.document_convert.specs.Converted.{AreLinesOf, documents_of, refusals_of}
 use Rattle.document_convert.specs.Texts.{pieces_of}
-use Rattle.document_convert.specs.declared.converting.Conversion.{Conversion}
+use Rattle.event_json.specs.Sites.{Site}
+use Rattle.folder_commands.specs.Listed.{ComesOf, ReadsSites}
+use Rattle.folder_commands.specs.Making.{refused_lines, too_few}
+use Rattle.folder_commands.specs.declared.listed.SitesCame.{SitesCame}
+use Rattle.folder_commands.specs.declared.listed.SitesCame.TheVariants as came
+use Rattle.folder_commands.proofs.ListedLemmas.{none_read_asks, sites_ask}
+use Rattle.outcome_forms.specs.declared.forms.Form.{Form}
+use Rattle.recall_outcomes.specs.Statuses.{outcome_status}
 use Rattle.recall_outcomes.specs.declared.faults.Fault.{Fault}
 use Rattle.recall_outcomes.specs.declared.faults.Fault.TheVariants.{NoMemory, Write}
+use Rattle.recall_outcomes.specs.declared.outcomes.CommandRefusal.{CommandRefusal}
+use Rattle.recall_outcomes.specs.declared.outcomes.Outcome.{Outcome}
+use Rattle.recall_outcomes.specs.declared.outcomes.Outcome.TheVariants as outcomes
+use Rattle.recall_outcomes.specs.declared.outcomes.Output.{Output}
+use Rattle.recall_text.specs.declared.site_lists.SiteList.{SiteList}
 use Rattle.site_folders.specs.Faults.{OnlyAsks}
 use Rattle.site_folders.specs.FileCalls.{FileCall, Failed, Led, ReadFile}
-use Rattle.site_folders.proofs.CallsInTurn.{led_then}
+use Rattle.site_folders.specs.Refusals.{AreRefused}
+use Rattle.site_folders.proofs.CallsInTurn.{led_so, led_then}
 use Rattle.site_folders.proofs.VainLemmas.{asks_first, asks_then, none_asks}
-use Rattle.command_line.specs.Converting.{BreaksAt, ConvertFails, Converts, ConvertsOne, is_told}
+use Rattle.command_line.specs.Converting.{BreaksAt, ConvertEnds, ConvertFails, Converts, ConvertsOne, EndsBy, EndsWhere, EndsWith, TellsRefused, Ways, is_told}
+use Rattle.command_line.specs.Ends.{OutcomeEnds}
+use Rattle.command_line.specs.declared.convert_commands.ConvertFiles.{ConvertFiles}
 
 -- the lines of some documents, and then those of others
 lines_then : (ds es : List Data) (lines more : List ℕ) → AreLinesOf ds lines → AreLinesOf es more → AreLinesOf (ds ++ es) (lines ++ more)
@@ -31,7 +46,7 @@ or_false a b = ap (λ c. a || c) (last b)
     last true = refl
     last false = refl
 
-module _ {K W : Type 0} (contents : W → Option (List ℕ)) (ways : Conversion) where
+module _ {K W : Type 0} (contents : W → Option (List ℕ)) (ways : Ways) where
   -- no file yet
   pub none_converted : (out : W) → Converts {K = K} contents ways [] out out false []
   none_converted out = record { files = []; of_paths = refl; read = refl; lines = []; are = refl; written = Appends-nil (contents out); refused_is = refl }
@@ -42,7 +57,7 @@ module _ {K W : Type 0} (contents : W → Option (List ℕ)) (ways : Conversion)
       → Converts contents ways (paths ++ path ∷ []) a c refused (calls ++ more)
   one_converted paths path a b c earlier refused calls more done one =
       let file : List ℕ × List ℕ = (path, one.text) in
-      let documents : List ℕ × List ℕ → List Data = λ f. documents_of ways (pieces_of f.1) in
+      let documents : List ℕ × List ℕ → List Data = λ f. documents_of ways.0 ways.1 (pieces_of f.1) in
       let told : List ℕ × List ℕ → Bool = λ f. is_told (refusals_of (pieces_of f.1)) in
       let call : List ℕ × List ℕ → FileCall K = λ f. ReadFile f.0 f.1 in
       record {
@@ -104,7 +119,7 @@ paths_parted paths n d few =
     ∙ append_assoc (map now (take n paths)) ((get_or paths n d).now ∷ []) (map now (drop (n + 1) paths))
 
 -- behind other files
-pub convert_broke : {F K W : Type 0} (does : F → FileCall K → F → Type 0) (contents : W → Option (List ℕ)) (ways : Conversion) (old mid new : F) (before between after : W) (refused : Bool)
+pub convert_broke : {F K W : Type 0} (does : F → FileCall K → F → Type 0) (contents : W → Option (List ℕ)) (ways : Ways) (old mid new : F) (before between after : W) (refused : Bool)
     (paths done others : List (List ℕ)) (path : List ℕ) (fault : Fault) → paths ≡ done ++ path ∷ others
     → Led does old mid (Converts contents ways done before between refused) → Led does mid new (BreaksAt contents path between after fault)
     → Led does old new (ConvertFails contents ways paths before after fault)
@@ -126,3 +141,58 @@ convert_broke {F} {K} does contents ways old mid new before between after refuse
       broke = broke;
       calls_are = refl;
     }
+
+-- ---- the list of sites
+
+-- what is refused has status 1
+refused_status : (whys : List CommandRefusal) (o : Outcome) → AreRefused whys o → outcome_status o ≡ 1
+refused_status whys outcomes.Created is = absurd is
+refused_status whys (outcomes.Stepped effects) is = absurd is
+refused_status whys (outcomes.Ran recalls coded) is = absurd is
+refused_status whys outcomes.Withheld is = absurd is
+refused_status whys (outcomes.Reported r report ways events) is = absurd is
+refused_status whys (outcomes.Traced trace ways events) is = absurd is
+refused_status whys (outcomes.TracedBack trace ways events) is = absurd is
+refused_status whys (outcomes.Standing recalls coded) is = absurd is
+refused_status whys (outcomes.Waiting detail coded) is = absurd is
+refused_status whys (outcomes.Known site items) is = absurd is
+refused_status whys (outcomes.WouldStart quarantined messages) is = absurd is
+refused_status whys (outcomes.Audited recalls ended coded) is = absurd is
+refused_status whys (outcomes.Inconsistent misfit) is = absurd is
+refused_status whys (outcomes.Covered sites) is = absurd is
+refused_status whys (outcomes.Gaps gaps coded) is = absurd is
+refused_status whys (outcomes.Missed r missed coded) is = absurd is
+refused_status whys (outcomes.Refused given) is = refl
+
+-- so of a list that is
+came_refused : (listed : SiteList) (whys : List CommandRefusal) (refused : Output) → ComesOf listed whys (came.Refused refused) → outcome_status refused.outcome ≡ 1
+came_refused listed [] refused comes = absurd comes
+came_refused listed (why ∷ whys) refused comes = refused_status (why ∷ whys) refused.outcome comes.0
+
+pub list_refused : {F K W : Type 0} (does : F → FileCall K → F → Type 0) (contents : W → Option (List ℕ)) (form : Form) (list : List ℕ) (old mid : F) (before after : W) (status : ℕ) (refused : Output)
+    → Led does old mid (ReadsSites list (came.Refused refused)) → OutcomeEnds form refused.sites refused.outcome (contents before) (contents after) status
+    → TellsRefused does contents form refused before after status
+list_refused does contents form list old mid before after status refused listed (inl (written, is)) =
+    inl (written, is ∙ came_refused listed.are.listed (refused_lines listed.are.listed ++ too_few listed.are.listed.sites) refused listed.are.comes)
+list_refused does contents form list old mid before after status refused listed (inr faulty) = inr faulty
+
+-- ---- all calls
+
+module _ {F K W : Type 0} (does : F → FileCall K → F → Type 0) (contents : W → Option (List ℕ)) (asked : ConvertFiles) (before after : W) (status : ℕ) where
+  by_asks : (sites : List Site) (old new : F) → EndsBy does contents sites asked old new before after status → Led does old new OnlyAsks
+  by_asks sites old new (inl (refused, led, is)) = led_so does old new (λ calls l. converts_ask contents (asked.ways, sites) _ before after refused calls l) led
+  by_asks sites old new (inr (fault, led, is)) = led_so does old new (λ calls l. fails_ask contents (asked.ways, sites) _ before after fault calls l) led
+
+  with_asks : (output : SitesCame) (old new : F) → EndsWith does contents output asked old new before after status → Led does old new OnlyAsks
+  with_asks (came.Refused refused) old new (same, told) = record { calls = []; are = none_asks; led = same }
+  with_asks (came.Listed sites) old new ends = by_asks sites old new ends
+
+  where_asks : (list : Option (List ℕ)) (old new : F) → EndsWhere does contents list asked old new before after status → Led does old new OnlyAsks
+  where_asks None old new ends = by_asks [] old new ends
+  where_asks (Some list) old new (inl ends) =
+      led_then does old ends.mid new (λ xs ys first others. asks_then xs ys first others) (led_so does old ends.mid (λ calls l. sites_ask list calls ends.came l) ends.listed) (with_asks ends.came ends.mid new ends.ends)
+  where_asks (Some list) old new (inr (fault, led, same, is)) = led_so does old new (λ calls l. none_read_asks list calls fault l) led
+
+  -- a conversion changes nothing
+  pub convert_asks : (old new : F) → ConvertEnds does contents asked old new before after status → Led does old new OnlyAsks
+  convert_asks old new ends = where_asks (option_map (λ t. t.now) asked.places) old new ends

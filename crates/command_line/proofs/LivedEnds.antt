@@ -27,11 +27,11 @@ use Rattle.command_line.specs.Packs.{Finds}
 use Rattle.command_line.specs.Lives.{AreActsOfSites, LeadByActs, LedInParts}
 use Rattle.command_line.specs.Plans.{FindsPlan, inputs_of}
 use Rattle.command_line.specs.declared.plan_commands.Aim.{Aim}
-use Rattle.command_line.specs.declared.plan_commands.Aim.TheVariants.{Contents, Gaps as Misses, Packs as Packings}
+use Rattle.command_line.specs.declared.plan_commands.Aim.TheVariants.{Contents, EachSite, Gaps as Misses, Packs as Packings}
 use Rattle.command_line.specs.declared.plan_commands.PlanCommand.{PlanCommand}
 use Rattle.command_line.specs.declared.asked.Batch.{Batch}
 use Rattle.command_line.specs.declared.asked.FileCommand.{FileCommand}
-use Rattle.command_line.specs.declared.asked.FileCommand.TheVariants.{Init, Copy, Capture, Start, Run, Report, Audit, Trace, Recalls, Recall as OneRecall, Items, Inside, Coverage, Gaps, Missed}
+use Rattle.command_line.specs.declared.asked.FileCommand.TheVariants.{Init, Copy, Capture, Start, Run, Report, Audit, Trace, TraceContents, Recalls, Recall as OneRecall, Items, Inside, Coverage, Gaps, Missed}
 use Rattle.command_line.specs.declared.convert_commands.ConvertFiles.{ConvertFiles}
 use Rattle.command_line.specs.declared.lint_commands.LintFiles.{LintFiles}
 use Rattle.command_line.specs.declared.pack_commands.PackFiles.{PackFiles}
@@ -43,7 +43,7 @@ use Rattle.folder_commands.specs.Words.{Words}
 use Rattle.outcome_forms.specs.declared.forms.Form.{Form}
 use Rattle.recall_text.specs.Words.{name_at}
 use Rattle.world_core.specs.KeptSteps.{StandsAfter}
-use Rattle.command_line.proofs.ConvertLemmas.{converts_ask, fails_ask}
+use Rattle.command_line.proofs.ConvertLemmas.{convert_asks}
 use Rattle.command_line.proofs.LivedAnswers.{after_asks, all_told, asks_behind, batch_failed, batch_taken, capture_failed, captured, has_run, refused_or, run_failed, site_told, start_failed, started}
 use Rattle.command_line.proofs.LivedCommands.{acted_unchanged, only_asked}
 
@@ -74,13 +74,15 @@ module _ {K : Type 0} (shown : K → Option Record) (may : K → Record → Type
     leads_acts (Audit f ended coded) output calls leads = asked_acts calls (after_asks shown stored f.now leads (λ ss rest told. refused_or shown stored f.now told.1 (λ t. all_told shown stored f.now t.2)))
     leads_acts (Trace f site item back ways events) output calls leads =
         asked_acts calls (asks_behind shown stored f.now _ _ (λ first its asks. after_asks shown stored f.now asks (λ ss rest told. refused_or shown stored f.now told.1 (λ t. all_told shown stored f.now t.2))) output calls leads)
+    leads_acts (TraceContents f site item ways) output calls leads =
+        asked_acts calls (asks_behind shown stored f.now _ _ (λ first its asks. after_asks shown stored f.now asks (λ ss rest told. refused_or shown stored f.now told.1 (λ t. all_told shown stored f.now t.2))) output calls leads)
     leads_acts (Recalls f coded) output calls leads = asked_acts calls (after_asks shown stored f.now leads (λ ss rest told. refused_or shown stored f.now told.1 (λ t. all_told shown stored f.now t.2)))
     leads_acts (OneRecall f recall coded) output calls leads = asked_acts calls (after_asks shown stored f.now leads (λ ss rest told. refused_or shown stored f.now told.1 (λ t. all_told shown stored f.now t.2)))
     leads_acts (Items f site text) output calls leads = asked_acts calls (after_asks shown stored f.now leads.0 (λ ss rest told. refused_or shown stored f.now told.1 (λ t. site_told shown stored f.now t.3)))
     leads_acts (Inside f site item text) output calls leads =
         asked_acts calls (asks_behind shown stored f.now _ _ (λ first its asks. after_asks shown stored f.now asks.0 (λ ss rest told. refused_or shown stored f.now told.1 (λ t. all_told shown stored f.now t.2))) output calls leads)
     leads_acts (Coverage f) output calls leads = asked_acts calls (after_asks shown stored f.now leads.0 (λ ss rest told. refused_or shown stored f.now told.1 (λ t. all_told shown stored f.now t.2)))
-    leads_acts (Gaps f coded) output calls leads = asked_acts calls (after_asks shown stored f.now leads.0 (λ ss rest told. refused_or shown stored f.now told.1 (λ t. all_told shown stored f.now t.2)))
+    leads_acts (Gaps f all coded) output calls leads = asked_acts calls (after_asks shown stored f.now leads (λ ss rest told. refused_or shown stored f.now told.1 (λ t. all_told shown stored f.now t.2)))
     leads_acts (Missed f recall coded) output calls leads = asked_acts calls (after_asks shown stored f.now leads.0 (λ ss rest told. refused_or shown stored f.now told.1 (λ t. all_told shown stored f.now t.2)))
 
     fails_acts : (command : FileCommand) (fault : Fault) (calls : List (FileCall K)) → FailsBy shown failed may reopens gives_up stored command fault calls → AreActsOfSites shown may calls
@@ -95,12 +97,13 @@ module _ {K : Type 0} (shown : K → Option Record) (may : K → Record → Type
     fails_acts (Report f recall ways events) fault calls fails = asked_acts calls fails.harmless
     fails_acts (Audit f ended coded) fault calls fails = asked_acts calls fails.harmless
     fails_acts (Trace f site item back ways events) fault calls fails = asked_acts calls fails.harmless
+    fails_acts (TraceContents f site item ways) fault calls fails = asked_acts calls fails.harmless
     fails_acts (Recalls f coded) fault calls fails = asked_acts calls fails.harmless
     fails_acts (OneRecall f recall coded) fault calls fails = asked_acts calls fails.harmless
     fails_acts (Items f site text) fault calls fails = asked_acts calls fails.harmless
     fails_acts (Inside f site item text) fault calls fails = asked_acts calls fails.harmless
     fails_acts (Coverage f) fault calls fails = asked_acts calls fails.harmless
-    fails_acts (Gaps f coded) fault calls fails = asked_acts calls fails.harmless
+    fails_acts (Gaps f all coded) fault calls fails = asked_acts calls fails.harmless
     fails_acts (Missed f recall coded) fault calls fails = asked_acts calls fails.harmless
 
   -- documents that are looked through
@@ -142,10 +145,7 @@ module _ {F K G W : Type 0} (does : F → FileCall K → F → Type 0) (waits li
 
   -- documents that are converted
   convert_acts : (files : ConvertFiles) (mid new : F) (before after : W) (status : ℕ) → ConvertEnds does contents files mid new before after status → Led does mid new (AreActsOfSites shown may)
-  convert_acts files mid new before after status (inl (refused, led, is)) =
-      led_so does mid new (λ calls l. asked_acts shown may opens stored calls (converts_ask contents files.ways _ before after refused calls l)) led
-  convert_acts files mid new before after status (inr (fault, led, is)) =
-      led_so does mid new (λ calls l. asked_acts shown may opens stored calls (fails_ask contents files.ways _ before after fault calls l)) led
+  convert_acts files mid new before after status ends = led_so does mid new (λ calls asks. asked_acts shown may opens stored calls asks) (convert_asks does contents files before after status mid new ends)
 
   -- ---- what is planned
 
@@ -156,6 +156,7 @@ module _ {F K G W : Type 0} (does : F → FileCall K → F → Type 0) (waits li
 
   plan_found : (aim : Aim) (folder : List ℕ) (old new : F) (came : Result (List Site × Planned) Fault) → FindsPlan does shown stored folder aim old new came → Led does old new (AreActsOfSites shown may)
   plan_found (Contents site item) folder old new (Ok told) (found, failed) = led_so does old new (λ calls asks. asked_acts shown may opens stored calls (after_asks shown stored folder asks (λ ss rest t. refused_or shown stored folder t.1 (λ u. all_told shown stored folder u.2)))) found
+  plan_found (EachSite site item) folder old new (Ok told) (found, failed) = led_so does old new (λ calls asks. asked_acts shown may opens stored calls (after_asks shown stored folder asks (λ ss rest t. refused_or shown stored folder t.1 (λ u. all_told shown stored folder u.2)))) found
   plan_found (Misses site recall) folder old new (Ok told) (found, failed) = led_so does old new (λ calls asks. asked_acts shown may opens stored calls (after_asks shown stored folder asks (λ ss rest t. refused_or shown stored folder t.1 (λ u. all_told shown stored folder u.2)))) found
   plan_found (Packings site) folder old new (Ok told) (found, failed) = led_so does old new (λ calls asks. asked_acts shown may opens stored calls (after_asks shown stored folder asks (λ ss rest t. refused_or shown stored folder t.1 (λ u. all_told shown stored folder u.2)))) found
   plan_found aim folder old new (Err fault) (found, failed) = led_so does old new (λ calls vain. asked_acts shown may opens stored calls vain.harmless) failed

@@ -26,9 +26,9 @@ use Rattle.command_line.specs.declared.convert_commands.ConvertFiles.{ConvertFil
 use Rattle.command_line.specs.declared.lint_commands.LintFiles.{LintFiles}
 use Rattle.command_line.specs.declared.pack_commands.PackFiles.{PackFiles}
 use Rattle.command_line.specs.declared.plan_commands.Aim.{Aim}
-use Rattle.command_line.specs.declared.plan_commands.Aim.TheVariants.{Contents, Gaps as Misses, Packs as Packings}
+use Rattle.command_line.specs.declared.plan_commands.Aim.TheVariants.{Contents, EachSite, Gaps as Misses, Packs as Packings}
 use Rattle.command_line.specs.declared.plan_commands.PlanCommand.{PlanCommand}
-use Rattle.command_line.specs.declared.asked.FileCommand.TheVariants.{Init, Copy, Capture, Start, Run, Report, Audit, Trace, Recalls, Recall, Items, Inside, Coverage, Gaps, Missed}
+use Rattle.command_line.specs.declared.asked.FileCommand.TheVariants.{Init, Copy, Capture, Start, Run, Report, Audit, Trace, TraceContents, Recalls, Recall, Items, Inside, Coverage, Gaps, Missed}
 use Rattle.command_line.specs.CommandLines.{recall, faults_of, named, AsksBatch, AsksDryBatch, AsksFiles, AsksNoAim, AsksNoPlan, AsksPlan, AsksHelp, AsksLinesAndEvents, AsksLint, AsksNamed, AsksOf, AsksPacks, AsksTwo, AsksTwoForms, Contradicts, GivesDocuments, GivesEpcs, GivesFiles, GivesLone, GivesSpelling, GivesWords, IsBad, IsBatch, IsCapture, IsCommand, IsContradiction, IsLintCommand, IsMistake, IsAim, IsPacksCommand, IsPlain, IsPlan, IsSet, IsShown, IsStart, AsksFor, IsToldAs, IsUnset, epcs_kind, has_many, words_of, AsksConvert, IsConvertCommand}
 use mathlib.Core.Logic.{◌⊎◌}
 
@@ -61,9 +61,10 @@ sim_is_no_command (Report folder recall ways events) rows is = let bad = is.0 in
 sim_is_no_command (Audit folder ended coded) rows is = let bad = is.0 in cc
 sim_is_no_command (Inside folder site item text) rows is = let bad = is.0 in cc
 sim_is_no_command (Coverage folder) rows is = let bad = is.0 in cc
-sim_is_no_command (Gaps folder coded) rows is = let bad = is.0 in cc
+sim_is_no_command (Gaps folder all coded) rows is = let bad = is.0 in cc
 sim_is_no_command (Missed folder recall coded) rows is = let bad = is.0 in cc
 sim_is_no_command (Trace folder site item back ways events) rows is = let bad = is.0 in cc
+sim_is_no_command (TraceContents folder site item ways) rows is = let bad = is.0 in cc
 sim_is_no_command (Recalls folder coded) rows is = let bad = is.0 in cc
 sim_is_no_command (Recall folder recall coded) rows is = let bad = is.0 in cc
 sim_is_no_command (Items folder site text) rows is = let bad = is.0 in cc
@@ -83,7 +84,9 @@ no_forms (inr (inr (inr (inr (inr both))))) = nothing_set (codes "csv-guarded") 
 nothing_twice : AsksTwo [] → ⊥
 nothing_twice (inl forms) = no_forms forms
 nothing_twice (inr (inl both)) = nothing_set (codes "key") both.0
-nothing_twice (inr (inr untold)) = nothing_set (codes "events") untold.0
+nothing_twice (inr (inr (inl untold))) = nothing_set (codes "events") untold.0
+nothing_twice (inr (inr (inr (inl both)))) = nothing_set (codes "contents") both.0
+nothing_twice (inr (inr (inr (inr all)))) = nothing_set (codes "all") all.0
 
 -- `sim` has no options that contradict one another
 no_contradiction : Contradicts (codes "sim") [] → ⊥
@@ -103,6 +106,7 @@ sim_has_no_words (kinds.EpcLines spelling) rows words is = let bad = is.0 in cc
 -- and no plan
 sim_has_no_aim : (aim : Aim) (rows : List Row) → IsAim aim (codes "sim") rows → ⊥
 sim_has_no_aim (Contents site item) rows is = let bad = is.0 in cc
+sim_has_no_aim (EachSite site item) rows is = let bad = is.0 in cc
 sim_has_no_aim (Misses site recall) rows is = let bad = is.0 in cc
 sim_has_no_aim (Packings site) rows is = let bad : ◌≡◌ {A = ℕ} 115 112 = ap (λ (text : List ℕ). get_or text 0 0) is.0 in absurd (omega arith)
 
@@ -382,15 +386,17 @@ ok_there {V} P (Err e) v is holds = let bad : ◌≡◌ {A = Option V} (Some v) 
 
 -- ---- what is planned
 
-pub plain_start : (b : Bool) (rows : List Row) → IsTrue b ↔ (IsSet rows (codes "contents") ⊎ IsSet rows (codes "gaps")) → b ≡ false → IsPlain rows
-plain_start b rows is not = (λ set. false≢true (sym not ∙ is.1 (inl set)), λ set. false≢true (sym not ∙ is.1 (inr set)))
+pub plain_start : (b : Bool) (rows : List Row) → IsTrue b ↔ (IsSet rows (codes "contents") ⊎ IsSet rows (codes "gaps") ⊎ IsSet rows (codes "each-site")) → b ≡ false → IsPlain rows
+plain_start b rows is not = (λ set. false≢true (sym not ∙ is.1 (inl set)), λ set. false≢true (sym not ∙ is.1 (inr (inl set))), λ set. false≢true (sym not ∙ is.1 (inr (inr set))))
 
 module _ (rows : List Row) where
-  -- there is no such plan, where there is none of either kind
-  pub no_aim : ((site : Bor Text) (item : Spelled) → IsAim (Contents site item) (codes "start") rows → ⊥) → ((site recall : Bor Text) → IsAim (Misses site recall) (codes "start") rows → ⊥) → AsksNoAim rows
-  no_aim none other (Contents site item) is = none site item is
-  no_aim none other (Misses site recall) is = other site recall is
-  no_aim none other (Packings site) is = let bad : ◌≡◌ {A = ℕ} 115 112 = ap (λ (text : List ℕ). get_or text 0 0) is.0 in absurd (omega arith)
+  -- there is no such plan, where there is none of each kind
+  pub no_aim : ((site : Bor Text) (item : Spelled) → IsAim (Contents site item) (codes "start") rows → ⊥) → ((site : Bor Text) (item : Spelled) → IsAim (EachSite site item) (codes "start") rows → ⊥)
+      → ((site recall : Bor Text) → IsAim (Misses site recall) (codes "start") rows → ⊥) → AsksNoAim rows
+  no_aim none each other (Contents site item) is = none site item is
+  no_aim none each other (EachSite site item) is = each site item is
+  no_aim none each other (Misses site recall) is = other site recall is
+  no_aim none each other (Packings site) is = let bad : ◌≡◌ {A = ℕ} 115 112 = ap (λ (text : List ℕ). get_or text 0 0) is.0 in absurd (omega arith)
 
   -- an item is spelled in one way
   pub spelled_so : (spelling : Spelling) → GivesSpelling rows spelling → GivesSpelling rows spellings.Epc → spelling ≡ spellings.Epc

@@ -1,5 +1,5 @@
 -- What the words of a command line ask for, as `clap` reads them.
-use Rattle.std.specs.Prelude.{◌≡◌, ◌≢◌, ◌⊎◌, ◌≤◌, ◌↔◌, ⊤, ℕ, Bool, true, false, IsTrue, List, [], ◌∷◌, Option, Some, None, codes, length, map, option_map, string_bytes, unwrap_or}
+use Rattle.std.specs.Prelude.{◌≡◌, ◌≢◌, ◌⊎◌, ◌≤◌, ◌↔◌, ⊤, ℕ, Bool, true, false, IsTrue, List, [], ◌∷◌, Option, Some, None, codes, is_some, length, map, option_map, string_bytes, unwrap_or}
 use mathlib.Core.Logic.{◌⊎◌}
 use Rattle.std.specs.Global.{Global}
 use Rattle.std.specs.declared.string.String.{String}
@@ -27,9 +27,9 @@ use Rattle.command_line.specs.declared.convert_commands.ConvertFiles.{ConvertFil
 use Rattle.command_line.specs.declared.lint_commands.LintFiles.{LintFiles}
 use Rattle.command_line.specs.declared.pack_commands.PackFiles.{PackFiles}
 use Rattle.command_line.specs.declared.plan_commands.Aim.{Aim}
-use Rattle.command_line.specs.declared.plan_commands.Aim.TheVariants.{Contents, Gaps as Misses, Packs as Packings}
+use Rattle.command_line.specs.declared.plan_commands.Aim.TheVariants.{Contents, EachSite, Gaps as Misses, Packs as Packings}
 use Rattle.command_line.specs.declared.plan_commands.PlanCommand.{PlanCommand}
-use Rattle.command_line.specs.declared.asked.FileCommand.TheVariants.{Init, Copy, Capture, Start, Run, Report, Audit, Trace, Recalls, Recall, Items, Inside, Coverage, Gaps, Missed}
+use Rattle.command_line.specs.declared.asked.FileCommand.TheVariants.{Init, Copy, Capture, Start, Run, Report, Audit, Trace, TraceContents, Recalls, Recall, Items, Inside, Coverage, Gaps, Missed}
 
 -- the words of a batch
 abbrev pub words_of : Batch → List (List ℕ)
@@ -118,8 +118,10 @@ start =
     with_rule
     (with_spellings
     (with_rule
+    (with_rule
     (with_rule (with_rule (with_rule (with_rule (with_rule (on_folder (codes "start")) (required (codes "site"))) epcs) (flag (codes "from"))) (flag (codes "dry-run"))) (flag (codes "contents")))
-    (flag (codes "gaps"))))
+    (flag (codes "gaps")))
+    (flag (codes "each-site"))))
     max_bytes
 
 -- `--turns n`: a number from 1 to 1,000,000, or 2,000 where it isn't there
@@ -153,7 +155,7 @@ abbrev pub trace : App
 trace =
     with_spellings
     (with_forms
-    (with_ways (with_rule (with_rule (with_rule (on_folder (codes "trace")) (required (codes "site"))) (required (codes "epc"))) (flag (codes "back")))))
+    (with_ways (with_rule (with_rule (with_rule (with_rule (on_folder (codes "trace")) (required (codes "site"))) (required (codes "epc"))) (flag (codes "back"))) (flag (codes "contents")))))
 
 -- the recall may be left out
 abbrev pub status : App
@@ -163,7 +165,7 @@ abbrev pub coverage : App
 coverage = on_folder (codes "coverage")
 
 abbrev pub gaps : App
-gaps = with_rule (with_rule (on_folder (codes "gaps")) (new_rule (codes "recall"))) (flag (codes "exit-code"))
+gaps = with_rule (with_rule (with_rule (on_folder (codes "gaps")) (new_rule (codes "recall"))) (flag (codes "all"))) (flag (codes "exit-code"))
 
 -- to a folder that is there
 abbrev pub copy : App
@@ -189,10 +191,17 @@ packs = with_rule (with_rule (on_folder (codes "packs")) capturing) (flag (codes
 abbrev pub lint : App
 lint = with_rule (with_rule (with_rule (with_rule (with_rule (new_app (codes "lint")) (required (codes "sites"))) files) (flag (codes "json"))) capturing) max_bytes
 
+-- `--places sites`
+abbrev pub places : Rule
+places = record (new_rule (codes "places")) { long = Some (codes "places"); value_names = 1 }
+
 -- it needs neither
 abbrev pub convert : App
 convert =
-    with_rule (with_rule (with_rule (with_rule (with_rule (with_rule (new_app (codes "convert")) files) (flag (codes "json"))) (flag (codes "lots"))) (flag (codes "links"))) (flag (codes "keep-errors")))
+    with_rule
+    (with_rule
+    (with_rule (with_rule (with_rule (with_rule (with_rule (new_app (codes "convert")) files) (flag (codes "json"))) (flag (codes "lots"))) (flag (codes "links"))) (flag (codes "keep-errors")))
+    places)
     max_bytes
 
 -- `recall` itself, which has to have one of them
@@ -287,9 +296,14 @@ GivesSpelling rows spellings.Scan = IsUnset rows (codes "key") × IsSet rows (co
 abbrev pub AsksTwoSpellings : List Row → Type 0
 AsksTwoSpellings rows = IsSet rows (codes "key") × IsSet rows (codes "scan")
 
--- events are asked for in a picture, which tells none
+-- events are asked for in a picture, or of what lies in an item, which tell none
 abbrev pub AsksUntoldEvents : List Row → Type 0
-AsksUntoldEvents rows = IsSet rows (codes "events") × IsSet rows (codes "dot")
+AsksUntoldEvents rows = IsSet rows (codes "events") × (IsSet rows (codes "dot") ⊎ IsSet rows (codes "contents"))
+
+-- what lies in an item is to be traced back, or all gaps are asked for with what one recall misses
+abbrev pub AsksAtOdds : List Row → Type 0
+AsksAtOdds rows =
+    (IsSet rows (codes "contents") × IsSet rows (codes "back")) ⊎ (IsSet rows (codes "all") × ((first_of (codes "recall") rows ≡ None) → ⊥))
 
 -- it is said how an item is spelled, and none is given: of items without `--in`
 abbrev pub AsksIdleSpelling : Text → List Row → Type 0
@@ -297,7 +311,7 @@ AsksIdleSpelling name rows = (name ≡ codes "items") × (first_of (codes "in") 
 
 -- options that exclude each other are there
 abbrev pub AsksTwo : List Row → Type 0
-AsksTwo rows = AsksTwoForms rows ⊎ AsksTwoSpellings rows ⊎ AsksUntoldEvents rows
+AsksTwo rows = AsksTwoForms rows ⊎ AsksTwoSpellings rows ⊎ AsksUntoldEvents rows ⊎ AsksAtOdds rows
 
 -- this item, by its text and its spelling
 abbrev pub GivesItem : List Row → Spelled → Type 0
@@ -324,7 +338,7 @@ GivesEpcs rows epcs by_lines = (all_of (codes "epc") rows ≡ Some epcs) × (IsT
 
 -- the start isn't planned by what other sites know
 abbrev pub IsPlain : List Row → Type 0
-IsPlain rows = IsUnset rows (codes "contents") × IsUnset rows (codes "gaps")
+IsPlain rows = IsUnset rows (codes "contents") × IsUnset rows (codes "gaps") × IsUnset rows (codes "each-site")
 
 -- the command has this name and these arguments
 abbrev pub IsCommand : FileCommand → Text → List Row → Type 0
@@ -349,6 +363,10 @@ IsCommand (Trace folder site item back ways events) name rows =
     (name ≡ codes "trace") × Gives rows (codes "dir") folder.now × Gives rows (codes "site") site.now × GivesItem rows item
     × (IsTrue back ↔ IsSet rows (codes "back")) × GivesWays rows ways
     × (IsTrue events ↔ IsSet rows (codes "events"))
+    × IsUnset rows (codes "contents")
+IsCommand (TraceContents folder site item ways) name rows =
+    (name ≡ codes "trace") × Gives rows (codes "dir") folder.now × Gives rows (codes "site") site.now × GivesItem rows item × GivesWays rows ways
+    × IsSet rows (codes "contents")
 IsCommand (Recalls folder coded) name rows =
     (name ≡ codes "status") × Gives rows (codes "dir") folder.now × (first_of (codes "recall") rows ≡ None) × (IsTrue coded ↔ IsSet rows (codes "exit-code"))
 IsCommand (Recall folder recall coded) name rows =
@@ -361,8 +379,8 @@ IsCommand (Inside folder site item text) name rows =
     (name ≡ codes "items") × Gives rows (codes "dir") folder.now × Gives rows (codes "site") site.now × GivesOrNone rows (codes "text") text.now
     × Gives rows (codes "in") item.text.now × GivesSpelling rows item.spelling
 IsCommand (Coverage folder) name rows = (name ≡ codes "coverage") × Gives rows (codes "dir") folder.now
-IsCommand (Gaps folder coded) name rows =
-    (name ≡ codes "gaps") × Gives rows (codes "dir") folder.now × (first_of (codes "recall") rows ≡ None) × (IsTrue coded ↔ IsSet rows (codes "exit-code"))
+IsCommand (Gaps folder all coded) name rows =
+    (name ≡ codes "gaps") × Gives rows (codes "dir") folder.now × (first_of (codes "recall") rows ≡ None) × (IsTrue all ↔ IsSet rows (codes "all")) × (IsTrue coded ↔ IsSet rows (codes "exit-code"))
 IsCommand (Missed folder recall coded) name rows =
     (name ≡ codes "gaps") × Gives rows (codes "dir") folder.now × Gives rows (codes "recall") recall.now × (IsTrue coded ↔ IsSet rows (codes "exit-code"))
 
@@ -401,10 +419,13 @@ GivesLone rows text = GivesEpcs rows (text ∷ []) false × IsUnset rows (codes 
 abbrev pub IsAim : Aim → Text → List Row → Type 0
 IsAim (Contents site item) name rows =
     (name ≡ codes "start") × Gives rows (codes "site") site.now × GivesLone rows item.text.now × GivesSpelling rows item.spelling
-    × IsSet rows (codes "contents") × IsUnset rows (codes "gaps")
+    × IsSet rows (codes "contents") × IsUnset rows (codes "gaps") × IsUnset rows (codes "each-site")
+IsAim (EachSite site item) name rows =
+    (name ≡ codes "start") × Gives rows (codes "site") site.now × GivesLone rows item.text.now × GivesSpelling rows item.spelling
+    × IsUnset rows (codes "contents") × IsUnset rows (codes "gaps") × IsSet rows (codes "each-site")
 IsAim (Misses site recall) name rows =
     (name ≡ codes "start") × Gives rows (codes "site") site.now × GivesLone rows recall.now × GivesSpelling rows spellings.Epc
-    × IsUnset rows (codes "contents") × IsSet rows (codes "gaps")
+    × IsUnset rows (codes "contents") × IsSet rows (codes "gaps") × IsUnset rows (codes "each-site")
 IsAim (Packings site) name rows = (name ≡ codes "packs") × (option_map (λ t. t.now) site ≡ first_of (codes "site") rows) × IsUnset rows (codes "dry-run")
 
 pub record IsPlan (command : PlanCommand) (name : Text) (rows : List Row) : Type 0 where
@@ -417,7 +438,7 @@ abbrev pub AsksNoAim : List Row → Type 0
 AsksNoAim rows = (aim : Aim) → IsAim aim (codes "start") rows → ⊥
 
 abbrev pub AsksNoPlan : List Row → Type 0
-AsksNoPlan rows = (IsSet rows (codes "contents") ⊎ IsSet rows (codes "gaps")) × AsksNoAim rows
+AsksNoPlan rows = (IsSet rows (codes "contents") ⊎ IsSet rows (codes "gaps") ⊎ IsSet rows (codes "each-site")) × AsksNoAim rows
 
 -- documents of files are looked through, by a list of sites
 pub record IsLint (asked : LintFiles) (rows : List Row) : Type 0 where
@@ -445,9 +466,11 @@ abbrev pub IsLintCommand : List Row → Asked → Type 0
 IsLintCommand rows (asked.Lint files) = IsLint files rows
 IsLintCommand rows other = ⊥
 
--- documents of files are converted
+-- documents of files are converted, by the sites of a list where one is given
 pub record IsConvert (asked : ConvertFiles) (rows : List Row) : Type 0 where
   pub files : all_of (codes "file") rows ≡ Some (map (λ path. path.now) asked.paths.items)
+  pub places : option_map (λ t. t.now) asked.places ≡ first_of (codes "places") rows
+  pub placed : asked.ways.places ≡ is_some asked.places
   pub lots : IsTrue asked.ways.lots ↔ IsSet rows (codes "lots")
   pub links : IsTrue asked.ways.links ↔ IsSet rows (codes "links")
   pub errors : IsTrue asked.ways.errors ↔ IsSet rows (codes "keep-errors")

@@ -19,6 +19,7 @@ use Rattle.site_folders.specs.Refusals.{IsNoSite}
 use Rattle.folder_questions.specs.Asked.{AsksItem, AsksRecall, RefusesItem, RefusesRecall}
 use Rattle.folder_questions.specs.Audits.{AnswersAudit}
 use Rattle.folder_questions.specs.Contents.{AnswersContents}
+use Rattle.folder_questions.specs.ContentsTraces.{AnswersContentsTrace}
 use Rattle.folder_questions.specs.Coverage.{AnswersCoverage}
 use Rattle.folder_questions.specs.DryStarts.{AnswersDryStart}
 use Rattle.folder_questions.specs.Gaps.{AnswersGaps}
@@ -33,7 +34,7 @@ use Rattle.folder_commands.specs.Runs.{RunFails, RunsAt}
 use Rattle.folder_commands.specs.Steps.{CaptureFails, CapturesAt, StartFails, StartsAt}
 use Rattle.command_line.specs.UnknownItems.{AndWho}
 use Rattle.command_line.specs.declared.asked.FileCommand.{FileCommand}
-use Rattle.command_line.specs.declared.asked.FileCommand.TheVariants.{Init, Copy, Capture, Start, Run, Report, Audit, Trace, Recalls, Recall as OneRecall, Items, Inside, Coverage, Gaps, Missed}
+use Rattle.command_line.specs.declared.asked.FileCommand.TheVariants.{Init, Copy, Capture, Start, Run, Report, Audit, Trace, TraceContents, Recalls, Recall as OneRecall, Items, Inside, Coverage, Gaps, Missed}
 
 -- an outcome beside which nothing is noted
 abbrev pub Plainly : {K : Type 0} → (List Site → Outcome → List (FileCall K) → Type 0) → Output → List (FileCall K) → Type 0
@@ -83,11 +84,19 @@ module _ {K : Type 0} (shown : K → Option Record) (stored : K → Type 0) (fol
       Plainly
       (AsksAll {Q = ⊤} shown stored folder (λ sites outcome. ⊥) (λ sites asked. ⊤) (λ asked rs outcome. AnswersCoverage rs outcome))
 
-  -- what sites tell nothing of that others packed, or sent them
-  abbrev pub FindsGaps : Bool → Output → List (FileCall K) → Type 0
-  FindsGaps coded =
-      Plainly
-      (AsksAll {Q = ⊤} shown stored folder (λ sites outcome. ⊥) (λ sites asked. ⊤) (λ asked rs outcome. AnswersGaps rs coded outcome))
+  -- where the item at the site of a name and what lies in it went; and what is missed of that
+  abbrev pub TracesContents : List ℕ → Spelled → Ways → Output → List (FileCall K) → Type 0
+  TracesContents name item ways output =
+      AsksAll {Q = ℕ × List ℕ} {A = Outcome × Notes} shown stored folder (λ sites told. RefusesItem name item sites told.0 × (told.1 ≡ Nothing))
+      (λ sites asked. AsksItem name item sites asked.0 asked.1)
+      (λ asked rs told. AnswersContentsTrace rs asked.0 asked.1 ways told.0 told.1)
+      output.sites (output.outcome, output.notes)
+
+  -- what sites tell nothing of that others packed, or sent them; and how much never came from where it was packed
+  abbrev pub FindsGaps : Bool → Bool → Output → List (FileCall K) → Type 0
+  FindsGaps all coded output =
+      AsksAll {Q = ⊤} {A = Outcome × Notes} shown stored folder (λ sites told. ⊥) (λ sites asked. ⊤) (λ asked rs told. AnswersGaps rs all coded told.0 told.1)
+      output.sites (output.outcome, output.notes)
 
   -- what the recall of a text misses
   abbrev pub FindsMissed : List ℕ → Bool → Output → List (FileCall K) → Type 0
@@ -136,13 +145,15 @@ module _ {K : Type 0} (knows : List ℕ → List ℕ → Type 0) (shown : K → 
   LeadsTo (Audit folder ended coded) output calls = Audits shown stored folder.now ended coded output calls
   LeadsTo (Trace folder site item back ways events) output calls =
       AndWho shown stored folder.now (record { site = site; item = item }) (Traces shown stored folder.now site.now item back ways events) output calls
+  LeadsTo (TraceContents folder site item ways) output calls =
+      AndWho shown stored folder.now (record { site = site; item = item }) (TracesContents shown stored folder.now site.now item ways) output calls
   LeadsTo (Recalls folder coded) output calls = AllStand shown stored folder.now coded output calls
   LeadsTo (OneRecall folder recall coded) output calls = OneStands shown stored folder.now recall.now coded output calls
   LeadsTo (Items folder site text) output calls = KnownItems shown stored folder.now site.now text.now output calls
   LeadsTo (Inside folder site item text) output calls =
       AndWho shown stored folder.now (record { site = site; item = item }) (TellsContents shown stored folder.now site.now item text.now) output calls
   LeadsTo (Coverage folder) output calls = TellsCoverage shown stored folder.now output calls
-  LeadsTo (Gaps folder coded) output calls = FindsGaps shown stored folder.now coded output calls
+  LeadsTo (Gaps folder all coded) output calls = FindsGaps shown stored folder.now all coded output calls
   LeadsTo (Missed folder recall coded) output calls = FindsMissed shown stored folder.now recall.now coded output calls
 
 module _ {K G : Type 0} (shown : K → Option Record) (failed : K → ℕ) (may : K → Record → Type 0) (reopens : K → Result K (Unopened K) → Type 0) (gives_up : G → ℕ → ℕ → Type 0) (stored : K → Type 0) where
@@ -157,10 +168,11 @@ module _ {K G : Type 0} (shown : K → Option Record) (failed : K → ℕ) (may 
   FailsBy (Report folder recall ways events) fault calls = EndsInVain shown folder.now fault calls
   FailsBy (Audit folder ended coded) fault calls = EndsInVain shown folder.now fault calls
   FailsBy (Trace folder site item back ways events) fault calls = EndsInVain shown folder.now fault calls
+  FailsBy (TraceContents folder site item ways) fault calls = EndsInVain shown folder.now fault calls
   FailsBy (Recalls folder coded) fault calls = EndsInVain shown folder.now fault calls
   FailsBy (OneRecall folder recall coded) fault calls = EndsInVain shown folder.now fault calls
   FailsBy (Items folder site text) fault calls = EndsInVain shown folder.now fault calls
   FailsBy (Inside folder site item text) fault calls = EndsInVain shown folder.now fault calls
   FailsBy (Coverage folder) fault calls = EndsInVain shown folder.now fault calls
-  FailsBy (Gaps folder coded) fault calls = EndsInVain shown folder.now fault calls
+  FailsBy (Gaps folder all coded) fault calls = EndsInVain shown folder.now fault calls
   FailsBy (Missed folder recall coded) fault calls = EndsInVain shown folder.now fault calls

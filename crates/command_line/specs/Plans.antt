@@ -16,12 +16,16 @@ use Rattle.folder_commands.specs.declared.inputs.Doing.{Doing}
 use Rattle.folder_commands.specs.declared.inputs.Doing.TheVariants.{Capture, Start}
 use Rattle.folder_questions.specs.Asked.{AsksItem}
 use Rattle.folder_questions.specs.Packs.{AsksWhere}
-use Rattle.folder_questions.specs.Plans.{AnswersContentsPlan, AnswersGapsPlan, AnswersPacksPlan, AsksGapsPlan, RefusesGapsPlan, RefusesItemPlan, RefusesWherePlan}
+use Rattle.folder_questions.specs.ContentsPlans.{AnswersContentsPlan}
+use Rattle.folder_questions.specs.EachSitePlans.{AnswersEachSitePlan}
+use Rattle.folder_questions.specs.GapsPlans.{AnswersGapsPlan, AsksGapsPlan, RefusesGapsPlan}
+use Rattle.folder_questions.specs.PacksPlans.{AnswersPacksPlan, RefusesWherePlan}
+use Rattle.folder_questions.specs.Plans.{RefusesItemPlan}
 use Rattle.folder_questions.specs.declared.plans.Planned.{Planned}
 use Rattle.folder_questions.specs.declared.plans.PlannedBatch.{PlannedBatch}
 use Rattle.folder_questions.specs.declared.plans.PlannedInput.{PlannedInput}
 use Rattle.command_line.specs.declared.plan_commands.Aim.{Aim}
-use Rattle.command_line.specs.declared.plan_commands.Aim.TheVariants.{Contents, Gaps, Packs}
+use Rattle.command_line.specs.declared.plan_commands.Aim.TheVariants.{Contents, EachSite, Gaps, Packs}
 
 -- ---- what is found
 
@@ -31,6 +35,9 @@ module _ {F K : Type 0} (does : F → FileCall K → F → Type 0) (shown : K �
   PlansBy (Contents site item) =
       AsksAll {Q = ℕ × List ℕ} shown stored folder (RefusesItemPlan site.now item) (λ sites asked. AsksItem site.now item sites asked.0 asked.1)
       (λ asked rs plan. AnswersContentsPlan rs asked.0 asked.1 plan)
+  PlansBy (EachSite site item) =
+      AsksAll {Q = ℕ × List ℕ} shown stored folder (RefusesItemPlan site.now item) (λ sites asked. AsksItem site.now item sites asked.0 asked.1)
+      (λ asked rs plan. AnswersEachSitePlan rs asked.0 asked.1 plan)
   PlansBy (Gaps site recall) =
       AsksAll {Q = ℕ × Recall} shown stored folder (RefusesGapsPlan site.now recall.now) (λ sites asked. AsksGapsPlan site.now recall.now sites asked.0 asked.1)
       (λ asked rs plan. AnswersGapsPlan rs asked.0 asked.1 plan)

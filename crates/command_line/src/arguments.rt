@@ -2,7 +2,7 @@
 
 ghost use Rattle.std.specs.Prelude.{◌≡◌, false, codes};
 ghost use Rattle.clap.specs.Words.{new_rule, rule_of};
-ghost use Rattle.command_line.specs.CommandLines.{capturing, containing, epcs, files, flag, folder, max_bytes, required, turns, wait};
+ghost use Rattle.command_line.specs.CommandLines.{capturing, containing, epcs, files, flag, folder, max_bytes, places, required, turns, wait};
 
 use clap::builder::ValueParser;
 use clap::{Arg, ArgAction, value_parser};
@@ -252,4 +252,17 @@ pub(crate) fn of_site<'a>(alloc: Global, help: &'a str) -> Arg<'a>
         .long("site")
         .value_name("name")
         .help(help)
+}
+
+/// The list of the sites of which destinations become addresses.
+pub(crate) fn places<'a>(alloc: Global) -> Arg<'a>
+    ensures rule { rule_of result ≡ places }
+    ensures local { result.global ≡ false }
+{
+    Arg::new(alloc, "places")
+        .long("places")
+        .value_name("sites")
+        .help(
+            "Write a destination that names the place of a site of this list as this site's address",
+        )
 }

@@ -104,6 +104,13 @@ pub(crate) enum FileCommand<'a> {
         /// Whether the events behind the steps are told.
         events: bool,
     },
+    /// An item at a site and all that lies in it are traced to where they went.
+    TraceContents {
+        folder: &'a str,
+        site: &'a str,
+        item: Spelled<'a>,
+        ways: Ways,
+    },
     /// It is asked how all recalls stand, and perhaps for a status that tells that one is open.
     Recalls {
         folder: &'a str,
@@ -142,6 +149,8 @@ pub(crate) enum FileCommand<'a> {
     /// It is asked for the gaps of what the sites captured, and perhaps for a status that tells that there are any.
     Gaps {
         folder: &'a str,
+        /// Whether containers are listed, too, that never came from where they were packed.
+        all: bool,
         coded: bool,
     },
     /// It is asked what a recall misses, and perhaps for a status that tells that something of it isn't quarantined.

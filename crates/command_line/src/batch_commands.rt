@@ -99,7 +99,8 @@ pub(crate) fn tell_batch<K: SiteKeeper, F: Files<K>, W: Write, E: Write>(
         BatchCame::Taken { totals, noted } => match write_totals(alloc, form, totals, output) {
             Ok(()) => {
                 let inside = if tells_inside { noted.inside } else { 0 };
-                write_noted(alloc, form, &noted.untraced, inside, errors);
+                let places = noted.places.as_slice();
+                write_noted(alloc, form, &noted.untraced, places, inside, errors);
                 totals.status()
             }
             Err(cause) => fault(alloc, form, files, cause, errors),

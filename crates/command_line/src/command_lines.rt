@@ -2,7 +2,7 @@
 
 ghost use Rattle.std.specs.Prelude.{◌≡◌, ◌↔◌, ◌⊎◌, codes, false, None, IfNone, IfOk, IfSome, IsTrue, length};
 ghost use Rattle.clap.specs.Words.{first_of, found_of, kind_of, rows_of, subcommand_rows_of};
-ghost use Rattle.command_line.specs.CommandLines.{texts_of, AsksFor, AsksIdleSpelling, AsksLinesAndEvents, AsksNamed, AsksOf, AsksTwoForms, AsksTwoSpellings, AsksUntoldEvents, Gives, GivesDocuments, GivesForm, GivesMost, GivesNumber, GivesSpelling, GivesTerms, IsCapture, IsMistake, IsSet, IsStart, IsToldAs, epcs_kind, has_many};
+ghost use Rattle.command_line.specs.CommandLines.{texts_of, AsksAtOdds, AsksFor, AsksIdleSpelling, AsksLinesAndEvents, AsksNamed, AsksOf, AsksTwoForms, AsksTwoSpellings, AsksUntoldEvents, Gives, GivesDocuments, GivesForm, GivesMost, GivesNumber, GivesSpelling, GivesTerms, IsCapture, IsMistake, IsSet, IsStart, IsToldAs, epcs_kind, has_many};
 
 use crate::asked::{Asked, Batch, FileCommand, Terms};
 use crate::convert_commands::convert_command;
@@ -44,6 +44,9 @@ fn named<'a>(alloc: Global, matches: &ArgMatches<'a>) -> Option<Asked<'a>>
     }
     if asks_untold_events(given) {
         return mistake(alloc, helps::UNTOLD_EVENTS).ok();
+    }
+    if asks_at_odds(given) {
+        return mistake(alloc, helps::AT_ODDS).ok();
     }
     if asks_idle_spelling(name, given) {
         return mistake(alloc, helps::IDLE_SPELLING).ok();
@@ -160,9 +163,10 @@ fn start_command<'a>(alloc: Global, given: &ArgMatches<'a>, terms: Terms) -> Opt
 /// Whether a start is to be planned by what other sites know.
 fn asks_plan(given: &ArgMatches<'_>) -> bool
     ensures { IsTrue result ↔ (IsSet (rows_of (found_of given.now)) (codes "contents")
-        ⊎ IsSet (rows_of (found_of given.now)) (codes "gaps")) }
+        ⊎ IsSet (rows_of (found_of given.now)) (codes "gaps")
+        ⊎ IsSet (rows_of (found_of given.now)) (codes "each-site")) }
 {
-    is_set(given, "contents") || is_set(given, "gaps")
+    is_set(given, "contents") || is_set(given, "gaps") || is_set(given, "each-site")
 }
 
 /// What words are that are files of documents. None where both the lines and the events of a file are to be taken on
@@ -252,11 +256,32 @@ fn form_of(given: &ArgMatches<'_>) -> Option<Form>
     }
 }
 
-/// Whether events are asked for in a picture, which tells none.
+/// Whether events are asked for in a picture, or of what lies in an item, which tell none.
 fn asks_untold_events(given: &ArgMatches<'_>) -> bool
     ensures { IsTrue result ↔ AsksUntoldEvents (rows_of (found_of given.now)) }
 {
-    is_set(given, "events") && is_set(given, "dot")
+    is_set(given, "events") && (is_set(given, "dot") || is_set(given, "contents"))
+}
+
+/// Whether what lies in an item is to be traced back, or all gaps are asked for with what one recall misses.
+fn asks_at_odds(given: &ArgMatches<'_>) -> bool
+    ensures { IsTrue result ↔ AsksAtOdds (rows_of (found_of given.now)) }
+{
+    asks_contents_back(given) || asks_all_of_one(given)
+}
+
+fn asks_contents_back(given: &ArgMatches<'_>) -> bool
+    ensures { IsTrue result ↔ (IsSet (rows_of (found_of given.now)) (codes "contents")
+        × IsSet (rows_of (found_of given.now)) (codes "back")) }
+{
+    is_set(given, "contents") && is_set(given, "back")
+}
+
+fn asks_all_of_one(given: &ArgMatches<'_>) -> bool
+    ensures { IsTrue result ↔ (IsSet (rows_of (found_of given.now)) (codes "all")
+        × ((first_of (codes "recall") (rows_of (found_of given.now)) ≡ None) → ⊥)) }
+{
+    is_set(given, "all") && !is_absent(given, "recall")
 }
 
 /// Whether it is said how an item is spelled where no item is given: at `items` without `--in`.

@@ -80,10 +80,11 @@ pub fn run_command<
     // fault, with 3, or with 1 exactly where something was refused.
     // Not covered: the names under which the lines tell of inputs.
     //
-    // In a conversion each file was read, one after another, and the lines of its documents were written, in order, and
-    // nothing else, with 0, or 1 exactly where something in a file is no document. Or a fault ended it, with 3: the
-    // files before one were converted, and that one can't be read, memory ran out at it, or its lines can't be written.
-    // Not covered: what the error stream is told.
+    // In a conversion each file was read, one after another, and the lines of its documents, by no sites or by those of
+    // the list that is given, were written, in order, and nothing else, with 0, or 1 exactly where something in a file
+    // is no document. Or a fault ended it, with 3: the files before one were converted, and that one can't be read,
+    // memory ran out at it, or its lines can't be written. A list is read before any document; where it is refused,
+    // with 1, or can't be read, with 3, no document is. Not covered: what the error stream is told.
     //
     // Help has 0, or 3 where it couldn't be written; a bad command line has 2, and nothing was read or written.
     // Not covered: the text of help.

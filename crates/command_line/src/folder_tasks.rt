@@ -12,8 +12,8 @@ use crate::asked::FileCommand;
 use event_json::Sites;
 use folder_commands::{capture, copy, init, run_sites, start};
 use folder_questions::{
-    Audit, ContentsOf, CoverageOf, DryStart, GapsOf, ItemsOf, KnowersOf, MissedOf, ReportOf,
-    StatusOf, Statuses, TraceOf,
+    Audit, ContentsOf, ContentsTraceOf, CoverageOf, DryStart, GapsOf, ItemsOf, KnowersOf, MissedOf,
+    ReportOf, StatusOf, Statuses, TraceOf,
 };
 use item_spellings::Spelled;
 use keeper_core::SiteKeeper;
@@ -109,6 +109,21 @@ pub(crate) fn do_command<
             let first = with_notes(ask(alloc, files, folder, &question)?);
             Ok(with_knowers(alloc, files, folder, &KnowersOf { site, item }, first))
         }
+        FileCommand::TraceContents {
+            folder,
+            site,
+            item,
+            ways,
+        } => {
+            let (site, item) = (*site, *item);
+            let question = ContentsTraceOf {
+                site,
+                item,
+                ways: *ways,
+            };
+            let first = with_notes(ask(alloc, files, folder, &question)?);
+            Ok(with_knowers(alloc, files, folder, &KnowersOf { site, item }, first))
+        }
         FileCommand::Recalls { folder, coded } => {
             let question = Statuses { coded: *coded };
             Ok(with_notes(ask(alloc, files, folder, &question)?))
@@ -141,9 +156,12 @@ pub(crate) fn do_command<
             let first = plain(ask(alloc, files, folder, &question)?);
             Ok(with_knowers(alloc, files, folder, &KnowersOf { site, item }, first))
         }
-        FileCommand::Gaps { folder, coded } => {
-            let question = GapsOf { coded: *coded };
-            Ok(plain(ask(alloc, files, folder, &question)?))
+        FileCommand::Gaps { folder, all, coded } => {
+            let question = GapsOf {
+                all: *all,
+                coded: *coded,
+            };
+            Ok(with_notes(ask(alloc, files, folder, &question)?))
         }
         FileCommand::Missed {
             folder,

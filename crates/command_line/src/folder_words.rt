@@ -83,22 +83,42 @@ fn site_command<'a>(name: &str, folder: &'a str, given: &ArgMatches<'a>) -> Opti
 {
     let site = argument(given, "site")?;
     if name == "trace" {
-        let item = item_of(given)?;
-        let (back, ways) = (is_set(given, "back"), ways_of(given));
-        let events = is_set(given, "events");
-        Some(FileCommand::Trace {
-            folder,
-            site,
-            item,
-            back,
-            ways,
-            events,
-        })
+        trace_command(folder, site, given)
     } else if name == "items" {
         items_command(folder, site, given)
     } else {
         None
     }
+}
+
+/// The command that traces an item, or an item and all that lies in it.
+fn trace_command<'a>(
+    folder: &'a str,
+    site: &'a str,
+    given: &ArgMatches<'a>,
+) -> Option<FileCommand<'a>>
+    requires folder { Gives (rows_of (found_of given.now)) (codes "dir") folder.now }
+    requires site { Gives (rows_of (found_of given.now)) (codes "site") site.now }
+    ensures { IfSome result (λ c. IsCommand c (codes "trace") (rows_of (found_of given.now))) }
+{
+    let item = item_of(given)?;
+    let ways = ways_of(given);
+    if is_set(given, "contents") {
+        return Some(FileCommand::TraceContents {
+            folder,
+            site,
+            item,
+            ways,
+        });
+    }
+    Some(FileCommand::Trace {
+        folder,
+        site,
+        item,
+        back: is_set(given, "back"),
+        ways,
+        events: is_set(given, "events"),
+    })
 }
 
 /// The command that asks for items: those that a site knows, or those that lie in one that it knows.
@@ -178,7 +198,11 @@ fn gaps_command<'a>(folder: &'a str, given: &ArgMatches<'a>) -> FileCommand<'a>
             recall,
             coded,
         },
-        None => FileCommand::Gaps { folder, coded },
+        None => FileCommand::Gaps {
+            folder,
+            all: is_set(given, "all"),
+            coded,
+        },
     }
 }
 

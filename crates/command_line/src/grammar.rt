@@ -6,7 +6,8 @@ ghost use Rattle.command_line.specs.CommandLines.{audit, capture, convert, copy,
 
 use crate::arguments::{
     brief, capturing, containing, csv, csv_guarded, dot, each, epcs, events, exit_code, files,
-    flag, folder, json, key, lines, max_bytes, of_site, optional, required, scan, turns, wait,
+    flag, folder, json, key, lines, max_bytes, of_site, optional, places, required, scan, turns,
+    wait,
 };
 use crate::helps;
 use clap::Command;
@@ -118,6 +119,11 @@ fn start<'a>(alloc: Global) -> Result<Command<'a>, AllocError>
             "gaps",
             "Recall at the site what the recall misses that is given as <epc>",
         ))?
+        .arg(flag(
+            alloc,
+            "each-site",
+            "Start it at each other site, too, of which an event names the item",
+        ))?
         .arg(key(alloc))?
         .arg(scan(alloc))?
         .arg(max_bytes(alloc))
@@ -172,6 +178,7 @@ fn trace<'a>(alloc: Global) -> Result<Command<'a>, AllocError>
         .arg(required(alloc, "site", "The site that has the item"))?
         .arg(required(alloc, "epc", "The EPC of the item"))?
         .arg(flag(alloc, "back", "Trace where it came from, not where it went"))?
+        .arg(flag(alloc, "contents", "Trace with it all that lies in it"))?
         .arg(brief(alloc))?
         .arg(events(alloc))?
         .arg(csv(alloc))?
@@ -201,6 +208,11 @@ fn gaps<'a>(alloc: Global) -> Result<Command<'a>, AllocError>
             alloc,
             "recall",
             "A recall, as dairy#1: what it misses; the gaps of all sites where it is left out",
+        ))?
+        .arg(flag(
+            alloc,
+            "all",
+            "List containers, too, that never came from where they were packed",
         ))?
         .arg(flag(
             alloc,
@@ -293,5 +305,6 @@ fn convert<'a>(alloc: Global) -> Result<Command<'a>, AllocError>
             "keep-errors",
             "Keep events that were declared to be errors, without their errorDeclaration",
         ))?
+        .arg(places(alloc))?
         .arg(max_bytes(alloc))
 }

@@ -16,9 +16,16 @@ error: only one of '--json', '--csv', '--csv-guarded' and '--dot' can be given
 For more information, try '--help'.
 ";
 
-/// What is wrong where events are asked for in a picture, which tells none.
+/// What is wrong where events are asked for in a picture, or of what lies in an item, which tell none.
 pub(crate) const UNTOLD_EVENTS: &str = "\
-error: '--events' is for text, '--json', '--csv' and '--csv-guarded', and not for '--dot'
+error: '--events' is for text, '--json', '--csv' and '--csv-guarded', and neither for '--dot' nor for '--contents'
+
+For more information, try '--help'.
+";
+
+/// What is wrong where options are there that don't go together.
+pub(crate) const AT_ODDS: &str = "\
+error: '--contents' traces to where items went, without '--back', and '--all' lists of all sites, without a recall
 
 For more information, try '--help'.
 ";
@@ -46,8 +53,8 @@ For more information, try '--help'.
 
 /// What is wrong where a start that is planned is asked for with something else.
 pub(crate) const NO_PLAN: &str = "\
-error: '--contents' takes one EPC and '--gaps' one recall, each without the other and without '--from' and
-'--dry-run', and '--gaps' without '--key' and '--scan'
+error: '--contents' and '--each-site' take one EPC and '--gaps' one recall, each without the others and without
+'--from' and '--dry-run', and '--gaps' without '--key' and '--scan'
 
 For more information, try '--help'.
 ";
@@ -169,7 +176,8 @@ element strings with a GTIN (01) and a serial number (21) or a lot (10), or an S
 
 With `--contents` each item that lies in the given one has a recall, too, by the packings of all sites. With
 `--gaps` a recall is given: each item at the site that it misses and that no recall holds has a recall, and
-before that the packings are captured that tell the site where those lie that it knows nothing of.
+before that the packings are captured that tell the site where those lie that it knows nothing of. With
+`--each-site` the item, as a lot, has a recall at each other site, too, of which an event names it.
 
 Examples:
   recall start chain dairy urn:epc:id:sgtin:0614141.112345.400 --dry-run
@@ -254,6 +262,9 @@ With `--csv` it is a table for a spreadsheet, with a row for each item at a site
 that left or each origin, with `--events` their first events, too, and with `--csv-guarded` the same with an
 apostrophe before what a spreadsheet might take for a formula; with `--dot` a picture for Graphviz. A refusal
 is printed as text.
+
+With `--contents` the items are traced with it that lie in it, by the packings of all sites: of a pallet, say, its
+cartons, each at the same site.
 
 With `--key` the item is given as this program prints it, with `--scan` as a scanner gives it.
 
@@ -357,9 +368,12 @@ from, over however many sites. Prints, by site and item,
   gap packed <site> <container> by <site> items <count>    shipped on, by one that didn't pack these items
   gap used <site> <container> items <count>                went into a transformation, and these items not
   gap unseen <site> <item> from <site>                     was shipped there, and no event there names it
-and then `total packed <count> items <count> used <count> unseen <count>`. A packed gap is closed where the
-site that shipped the container captures its packing (AggregationEvent, ADD), as the other one did; do so
-before a recall reaches it. `recall trace` and `recall report` note what of their items is `missed`.
+  gap lot <site> <lot>                                     a recall holds this lot elsewhere, and none here
+  gap unlinked <site> <container> by <site> items <count>  with `--all`: it never came from where it was packed
+and then `total packed <count> items <count> used <count> unseen <count>`, with ` lot <count>` where there are
+lots. `recall packs` closes packed gaps: each site captures the packings (AggregationEvent, ADD) of others; do so
+before a recall reaches them. `recall trace` and `recall report` note what of their items is `missed`. With
+`--json` a packed gap has the times of its first packing and of its last shipment.
 
 With a recall prints what that one misses, by site and item, and what left the traced sites unseen by it,
   gap missed <site> <item> [held by <recall>]    it came there by such a container; another recall holds it
@@ -367,7 +381,7 @@ With a recall prints what that one misses, by site and item, and what left the t
 and then `total missed <count> held <count> left <count>`.
 
 Examples:
-  recall gaps chain
+  recall gaps chain --all
   recall gaps chain dairy#1 --exit-code --json
 
 Status: 0 done, 1 refused, 3 a fault, and with `--exit-code` 5 where there are gaps, or where what a recall
@@ -404,20 +418,25 @@ each lot of a list of quantities stands among the items of the list, by its one 
 https://id.gs1.org/01/<gtin>/10/<lot>, and so does each lot that an event names among its items; an event of which an
 element has no lot stays as it is. A lot that the `ilmd` of an event names leads to the units that the event brings
 forth, by an event behind it. With `--links` a unit that is given by a Digital Link on any host, or by element strings
-in brackets, becomes its link on id.gs1.org. With `--keep-errors` an event that was declared to be an error is written
-without its `errorDeclaration`, with which a capture refuses it: a recall follows what it says. An event with a list of
-more than 1,000 items becomes parts, and a document of more than 1,000 events becomes several, unless these would repeat
-much.
+in brackets, becomes its link on id.gs1.org. With `--places <sites>` a destination that names a listed site's place in
+another spelling becomes this site's address; a list that `recall lint` refuses is refused, and nothing is converted.
+With `--keep-errors` an event that was declared to be an error is written without its `errorDeclaration`, with which a
+capture refuses it: a recall follows what it says. An event with a list of more than 1,000 items becomes parts, and a
+document of more than 1,000 events becomes several, unless these would repeat much.
 
 The error stream tells what is no document, `refused Doc Syntax` or `NotDocument` with the file and the line, and
-then an account, as `note: written 1 events 3 links 0 lots 2 derived 1 untied 0 parted 0 errors 0 left 0`: the
-documents, their events, events of which a link was written otherwise, lots among the items, events from a lot to its
-units, events with too many lots or units and without such an event, events that became parts, events that were declared
-to be errors and are kept, and events that still have quantities, with which a capture refuses them. Ask for `--lots`
-and `--links` from the first capture of a folder on: an event that was captured without them is another one with them.
+then an account, as `note: written 1 events 3 links 0 lots 2 derived 1 untied 0 parted 0 errors 0 places 0
+places_of_several 0 left 0`, in one line: the documents, their events, events of which a link was written otherwise,
+lots among the items, events from a lot to its units, events with too many lots or units and without such an event,
+events that became parts, events that were declared to be errors and are kept, events of which a destination became an
+address, events with a destination that names the GLN of several listed sites and stayed, and events that still have
+quantities, with which a capture refuses them. Ask for `--lots`, `--links` and `--places` from the first capture of a
+folder on: an event that was captured without them is another one with them.
 
 Examples:
   recall convert answer-of-a-query.json | recall capture chain dairy - --lines
   recall convert --lots monday/*.json > monday.ndjson
+  recall convert --places sites.txt monday.json > monday.ndjson
 
-Status: 0 done, 1 something is no document, 3 a fault of a file, named on the error stream.";
+Status: 0 done, 1 something is no document, or the list of sites is refused, 3 a fault of a file, named on the error
+stream.";

@@ -17,7 +17,9 @@ use crate::{helps, statuses};
 use clap::ArgMatches;
 use event_json::Sites;
 use folder_commands::{BatchOutput, Doing, Given, take_texts};
-use folder_questions::{ContentsPlan, GapsPlan, PacksPlan, Planned, PlannedBatch, PlannedInput};
+use folder_questions::{
+    ContentsPlan, EachSitePlan, GapsPlan, PacksPlan, Planned, PlannedBatch, PlannedInput,
+};
 use item_spellings::{Spelled, Spelling};
 use keeper_core::SiteKeeper;
 use outcome_forms::{InputSentences, write_sentences};
@@ -41,6 +43,8 @@ pub(crate) struct PlanCommand<'a> {
 pub(crate) enum Aim<'a> {
     /// Recalls of an item and of all that lies in it are started at a site.
     Contents { site: &'a str, item: Spelled<'a> },
+    /// A recall of an item is started at a site, and at each other one of which an event names it.
+    EachSite { site: &'a str, item: Spelled<'a> },
     /// A site starts recalls of what a recall misses there, and captures what tells it where that lies.
     Gaps { site: &'a str, recall: &'a str },
     /// All sites, or one, close their packed gaps.
@@ -54,7 +58,8 @@ pub(crate) fn plan_start<'a>(
     terms: Terms,
 ) -> Option<Asked<'a>>
     requires planned { IsSet (rows_of (found_of given.now)) (codes "contents")
-        ⊎ IsSet (rows_of (found_of given.now)) (codes "gaps") }
+        ⊎ IsSet (rows_of (found_of given.now)) (codes "gaps")
+        ⊎ IsSet (rows_of (found_of given.now)) (codes "each-site") }
     requires terms { GivesTerms (rows_of (found_of given.now)) terms }
     ensures { IfSome result (IsStart (rows_of (found_of given.now))) }
 {
@@ -86,21 +91,19 @@ fn start_aim<'a>(
         return None;
     }
     let text = words[0];
+    let item = Spelled { text, spelling };
+    let contents = is_set(given, "contents");
     let gaps = is_set(given, "gaps");
-    if is_set(given, "contents") {
-        if gaps {
-            return None;
-        }
-        let item = Spelled { text, spelling };
-        return Some(Aim::Contents { site, item });
-    }
-    if !gaps {
-        return None;
-    }
-    if is_epc(spelling) {
-        Some(Aim::Gaps { site, recall: text })
-    } else {
-        None
+    let each = is_set(given, "each-site");
+    match (contents, gaps, each) {
+        (true, false, false) => Some(Aim::Contents { site, item }),
+        (false, false, true) => Some(Aim::EachSite { site, item }),
+        (false, true, false) => if is_epc(spelling) {
+            Some(Aim::Gaps { site, recall: text })
+        } else {
+            None
+        },
+        _ => None,
     }
 }
 
@@ -161,6 +164,9 @@ fn find<K: SiteKeeper, F: Files<K>>(
     match asked.aim {
         Aim::Contents { site, item } => {
             ask(alloc, files, asked.folder, &ContentsPlan { site, item })
+        }
+        Aim::EachSite { site, item } => {
+            ask(alloc, files, asked.folder, &EachSitePlan { site, item })
         }
         Aim::Gaps { site, recall } => {
             ask(alloc, files, asked.folder, &GapsPlan { site, recall })
@@ -256,6 +262,7 @@ fn take_part<K: SiteKeeper, F: Files<K>, W: Write, E: Write>(
 fn tells_inside(aim: Aim<'_>) -> bool {
     match aim {
         Aim::Contents { site: _, item: _ } => false,
+        Aim::EachSite { site: _, item: _ } => true,
         Aim::Gaps { site: _, recall: _ } => true,
         Aim::Packs { site: _ } => true,
     }

@@ -7,4 +7,4 @@ use Rattle.command_line.proofs.convert_commands.convert_all.Given as goal
 abbrev pub invariant-loop-path : goal.invariant-loop-path
 invariant-loop-path g l =
     Led g.F.Files.does l.initial.files l.files
-    (Converts g.W.Write.contents l.asked.ways (map (λ p. p.now) (take l.path-index l.paths)) l.initial.output l.output l.total.refused)
+    (Converts g.W.Write.contents (l.asked.ways, l.sites) (map (λ p. p.now) (take l.path-index l.paths)) l.initial.output l.output l.total.refused)

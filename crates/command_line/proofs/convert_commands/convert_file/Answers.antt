@@ -32,7 +32,7 @@ pub returns-clause-all : goal.returns-clause-all
 returns-clause-all g c =
     let text = c.in_ok-bytes.bytes.items in
     let converted = c.in_ok-converted.converted in
-    let are = subst (λ t. AreConverted c.args.asked.now.ways (pieces_of t) converted) c.as_slice.ensures.value c.in_ok-converted.ensures in
+    let are = subst (λ t. AreConverted c.args.asked.now.ways c.args.sites.now (pieces_of t) converted) c.as_slice.ensures.value c.in_ok-converted.ensures in
     record {
       calls = ReadFile c.args.path.now text ∷ [];
       are = record {

@@ -19,8 +19,9 @@ use Rattle.folder_questions.specs.Missed.{AnswersMissed}
 use Rattle.folder_questions.specs.Reports.{AnswersReport}
 use Rattle.folder_questions.specs.SiteItems.{AnswersItems}
 use Rattle.folder_questions.specs.Standings.{AnswersRecall}
+use Rattle.folder_questions.specs.ContentsTraces.{AnswersContentsTrace}
 use Rattle.folder_questions.specs.Traces.{AnswersTrace}
-use Rattle.command_line.specs.Leads.{TellsContents, Traces}
+use Rattle.command_line.specs.Leads.{TellsContents, Traces, TracesContents}
 use Rattle.command_line.proofs.Behind.{and_who}
 use Rattle.command_line.proofs.Starts.{Firsts, first_led, noted_led, plainly_led, start_led}
 use Rattle.command_line.proofs.folder_tasks.do_command.Goals.{then-dry+in_ok-ask-in-Start, else-dry+in_ok-first-in-Start}
@@ -105,6 +106,25 @@ returns-in_ok-ask-in-Trace-clause-led g c =
     c.in_ok-ask-in-Trace.ensures.answered)
     c.with_knowers-in-Trace.ensures)
 
+pub returns-in_ok-ask-in-TraceContents-clause-led : goal.returns-in_ok-ask-in-TraceContents-clause-led
+returns-in_ok-ask-in-TraceContents-clause-led g c =
+    let does = g.F.Files.does in
+    let shown = g.K.SiteKeeper.shown in
+    let stored = g.K.SiteKeeper.stored in
+    let folder = c.in-TraceContents.folder.now in
+    let site = c.in-TraceContents.site in
+    let item = c.in-TraceContents.item in
+    let ways = c.in-TraceContents.ways in
+    rw c.in-TraceContents.is
+    (and_who does shown stored folder (record { site = site; item = item }) (TracesContents shown stored folder site.now item ways) c.args.files.now c.ask-in-TraceContents.new.files c.with_knowers-in-TraceContents.new.files
+    c.with_notes-first-in-TraceContents.result c.with_knowers-in-TraceContents.result
+    (noted_led does
+    (AsksAll {Q = ℕ × List ℕ} {A = Outcome × Notes} shown stored folder (λ sites told. RefusesItem site.now item sites told.0 × (told.1 ≡ Nothing)) (λ sites asked. AsksItem site.now item sites asked.0 asked.1)
+    (λ asked rs told. AnswersContentsTrace rs asked.0 asked.1 ways told.0 told.1))
+    c.args.files.now c.ask-in-TraceContents.new.files c.in_ok-ask-in-TraceContents.field-0 c.with_notes-first-in-TraceContents.result c.with_notes-first-in-TraceContents.ensures.sites c.with_notes-first-in-TraceContents.ensures.outcome
+    c.with_notes-first-in-TraceContents.ensures.notes c.in_ok-ask-in-TraceContents.ensures.answered)
+    c.with_knowers-in-TraceContents.ensures)
+
 pub returns-in_ok-ask-in-Recall-clause-led : goal.returns-in_ok-ask-in-Recall-clause-led
 returns-in_ok-ask-in-Recall-clause-led g c =
     let recall = c.in-Recall.recall.now in
@@ -146,10 +166,10 @@ returns-in_ok-ask-in-Inside-clause-led g c =
 pub returns-in_ok-ask-in-Gaps-clause-led : goal.returns-in_ok-ask-in-Gaps-clause-led
 returns-in_ok-ask-in-Gaps-clause-led g c =
     rw c.in-Gaps.is
-    (plainly_led g.F.Files.does
-    (AsksAll {Q = ⊤} g.K.SiteKeeper.shown g.K.SiteKeeper.stored c.in-Gaps.folder.now (λ sites outcome. ⊥) (λ sites asked. ⊤) (λ asked rs outcome. AnswersGaps rs c.in-Gaps.coded outcome))
-    c.args.files.now c.ask-in-Gaps.new.files c.in_ok-ask-in-Gaps.field-0 c.plain-in-Gaps.result c.plain-in-Gaps.ensures.sites c.plain-in-Gaps.ensures.outcome c.plain-in-Gaps.ensures.silent
-    c.in_ok-ask-in-Gaps.ensures.answered)
+    (noted_led g.F.Files.does
+    (AsksAll {Q = ⊤} {A = Outcome × Notes} g.K.SiteKeeper.shown g.K.SiteKeeper.stored c.in-Gaps.folder.now (λ sites told. ⊥) (λ sites asked. ⊤)
+    (λ asked rs told. AnswersGaps rs c.in-Gaps.all c.in-Gaps.coded told.0 told.1))
+    c.args.files.now c.ask-in-Gaps.new.files c.in_ok-ask-in-Gaps.field-0 c.with_notes-in-Gaps.result c.with_notes-in-Gaps.ensures.sites c.with_notes-in-Gaps.ensures.outcome c.with_notes-in-Gaps.ensures.notes c.in_ok-ask-in-Gaps.ensures.answered)
 
 pub returns-in_ok-ask-in-Missed-clause-led : goal.returns-in_ok-ask-in-Missed-clause-led
 returns-in_ok-ask-in-Missed-clause-led g c =

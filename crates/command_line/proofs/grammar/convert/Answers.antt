@@ -12,4 +12,5 @@ returns c =
     let lots = adds_rule _ _ _ _ _ c.in_ok-arg-3.ensures c.flag.ensures.local json c.flag.ensures.rule in
     let links = adds_rule _ _ _ _ _ c.in_ok-arg-4.ensures c.flag-2.ensures.local lots c.flag-2.ensures.rule in
     let errors = adds_rule _ _ _ _ _ c.in_ok-arg-5.ensures c.flag-3.ensures.local links c.flag-3.ensures.rule in
-    IfOk-weaker c.arg-6.result _ _ (λ command adds. adds_rule _ _ command _ _ adds c.max_bytes.ensures.local errors c.max_bytes.ensures.rule) c.arg-6.ensures
+    let places = adds_rule _ _ _ _ _ c.in_ok-arg-6.ensures c.places.ensures.local errors c.places.ensures.rule in
+    IfOk-weaker c.arg-7.result _ _ (λ command adds. adds_rule _ _ command _ _ adds c.max_bytes.ensures.local places c.max_bytes.ensures.rule) c.arg-7.ensures

@@ -10,6 +10,7 @@ returns c =
     let dry = adds_rule _ _ _ _ _ c.in_ok-arg-4.ensures c.flag-2.ensures.local from c.flag-2.ensures.rule in
     let inside = adds_rule _ _ _ _ _ c.in_ok-arg-5.ensures c.flag-3.ensures.local dry c.flag-3.ensures.rule in
     let gaps = adds_rule _ _ _ _ _ c.in_ok-arg-6.ensures c.flag-4.ensures.local inside c.flag-4.ensures.rule in
-    let key = adds_rule _ _ _ _ _ c.in_ok-arg-7.ensures c.key.ensures.local gaps c.key.ensures.rule in
-    let scan = adds_rule _ _ _ _ _ c.in_ok-arg-8.ensures c.scan.ensures.local key c.scan.ensures.rule in
-    IfOk-weaker c.arg-9.result _ _ (λ command adds. adds_rule _ _ command _ _ adds c.max_bytes.ensures.local scan c.max_bytes.ensures.rule) c.arg-9.ensures
+    let sites = adds_rule _ _ _ _ _ c.in_ok-arg-7.ensures c.flag-5.ensures.local gaps c.flag-5.ensures.rule in
+    let key = adds_rule _ _ _ _ _ c.in_ok-arg-8.ensures c.key.ensures.local sites c.key.ensures.rule in
+    let scan = adds_rule _ _ _ _ _ c.in_ok-arg-9.ensures c.scan.ensures.local key c.scan.ensures.rule in
+    IfOk-weaker c.arg-10.result _ _ (λ command adds. adds_rule _ _ command _ _ adds c.max_bytes.ensures.local scan c.max_bytes.ensures.rule) c.arg-10.ensures
