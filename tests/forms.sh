@@ -30,6 +30,7 @@ import re
 import shutil
 import subprocess
 import sys
+import urllib.parse
 
 RECALL = os.environ["RECALL"]
 EXAMPLES = os.path.join(os.environ["HERE"], "examples", "dairy")
@@ -55,9 +56,17 @@ def same(what, told, wanted):
 def numbers(item):
     """The GTIN, the serial number and the SSCC of an item, by the words of its key."""
     words = item.split(" ")
+    if lot(item):
+        return [words[1].split("/")[4], "", ""]
     if words[0] == "sgtin":
         return [words[1], words[2], ""]
     return ["", "", words[1]] if words[0] == "sscc" else ["", "", ""]
+
+
+def lot(item):
+    """The lot number of a lot, by its link, and nothing of any other item."""
+    found = re.fullmatch(r"uri https://id\.gs1\.org/01/[0-9]{14}/10/([^/?#]+)", item)
+    return urllib.parse.unquote(found[1]) if found else ""
 
 
 def beside(pair, back):
@@ -82,12 +91,12 @@ def rows_of(told, events=False):
     back = told.get("trace") == "back"
     about = told.get("recall", "")
     step = "to" if back else "from"
-    rows = [FRONT + [step + "_site", step + "_item"] + BACK + EVIDENCE * events]
+    rows = [FRONT + [step + "_site", step + "_item"] + BACK + EVIDENCE * events + ["lot"]]
 
     def row(site, item, other, kind, destination="", event=None, carrier=""):
         near = [other["site"], other["item"]] if other else ["", ""]
         shown = [event["id"] or "", event["time"] or ""] if event else ["", ""]
-        rows.append([about, site, item, *numbers(item), *near, kind, destination] + [*shown, carrier] * events)
+        rows.append([about, site, item, *numbers(item), *near, kind, destination] + [*shown, carrier] * events + [lot(item)])
 
     for pair in told["pairs"]:
         row(pair["site"], pair["item"], beside(pair, back), "held" if about else "found", event=event_of(pair, back))

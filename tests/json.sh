@@ -89,7 +89,8 @@ mkdir spelled
 printf 'site plant https://id.gs1.org/414/9521321000025\nsite shop-1 https://id.gs1.org/414/9521321000032\n' >list
 tells 0 '{"created":["plant","shop-1"]}' '' init spelled list
 printf '{"type":"ObjectEvent","eventID":"e","eventTime":"2024-05-01T08:00:00Z","eventTimeZoneOffset":"+00:00","action":"OBSERVE","epcList":["x"],"destinationList":[{"type":"location","destination":"urn:epc:id:sgln:9521321.00003.0"}]}' >spelling
-tells 0 '{"captured":1,"known":0,"skipped":0}' '{"note":"1 destination is no traced site: what went there counts as outside"}' capture spelled plant spelling
+tells 0 '{"captured":1,"known":0,"skipped":0}' '{"note":"1 destination is no traced site: what went there counts as outside"}
+{"note":"no traced site: urn:epc:id:sgln:9521321.00003.0"}' capture spelled plant spelling
 tells 0 '{"outside":[{"destination":"urn:epc:id:sgln:9521321.00003.0","item":"uri x","site":"plant"}],"pairs":[{"item":"uri x","site":"plant","trail":[{"item":"uri x","site":"plant"}]}],"root":{"item":"uri x","site":"plant"},"trace":"forward"}' '{"note":"the destination urn:epc:id:sgln:9521321.00003.0 may be shop-1, whose address https://id.gs1.org/414/9521321000032 names the same place"}' trace spelled plant x
 tells 1 '{"event":1,"fault":"Quantities","field":"quantityList","file":"quantities"}
 {"event":1,"fault":"Missing","field":"eventTime","file":"quantities"}
@@ -144,7 +145,7 @@ pairs=$("$recall" audit made | sed -n 's/^equal plant#1 pairs //p')
 tells 0 "{\"audit\":\"equal\",\"pairs\":$pairs,\"recall\":\"plant#1\"}" '' audit made
 tells 1 '{"refused":"UnknownRecall"}' '' report made 'plant#9'
 tells 1 '{"refused":"BadLine"}' '' report made plant
-tells 5 '{"items":0,"packed":[],"unseen":[{"from":"plant","item":"sscc 095213210000000421","site":"shop-1"}],"used":[]}' '' gaps made --exit-code
+tells 5 '{"items":0,"lots":[],"packed":[],"unlinked":null,"unseen":[{"from":"plant","item":"sscc 095213210000000421","site":"shop-1"}],"used":[]}' '' gaps made --exit-code
 tells 0 '{"left":[],"missed":[],"recall":"plant#1"}' '' gaps made 'plant#1' --exit-code
 tells 1 '{"refused":"UnknownRecall"}' '' gaps made 'plant#9'
 

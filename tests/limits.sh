@@ -227,7 +227,7 @@ tied() {
         printf ']}}'
     } >"$work/document"
     "$recall" convert --lots "$work/document" >"$work/converted" 2>"$work/printed" || failed=1
-    echo "note: written 1 events $(($5 + $3)) links 0 lots 0 derived $3 untied $4 parted $(($5 > 1)) errors 0 left 0" >"$work/wanted"
+    echo "note: written 1 events $(($5 + $3)) links 0 lots 0 derived $3 untied $4 parted $(($5 > 1)) errors 0 places 0 places_of_several 0 left 0" >"$work/wanted"
     if ! diff -u --label 'as it should be' --label "$1 units of $2 lots" "$work/wanted" "$work/printed"; then
         failed=1
     fi
@@ -266,7 +266,7 @@ parted() {
         "$recall" capture "$work/chain" A --lines "$work/converted" 2>"$work/told" | tail -n 1 >>"$work/printed"
     done
     {
-        echo "note: written $3 events $1 links 0 lots 0 derived 0 untied 0 parted $2 errors 0 left 0"
+        echo "note: written $3 events $1 links 0 lots 0 derived 0 untied 0 parted $2 errors 0 places 0 places_of_several 0 left 0"
         if [ "$document" = taken ]; then
             echo "documents $3 captured $1 known 0 skipped 0 refused 0"
             echo "documents $3 captured 0 known $1 skipped 0 refused 0"
@@ -415,7 +415,7 @@ letters() {
 # counted WRITTEN EVENTS PARTED: the document is converted into so many documents and events, and so many events were parted
 counted() {
     "$recall" convert "$work/document" >"$work/converted" 2>"$work/printed" || failed=1
-    echo "note: written $1 events $2 links 0 lots 0 derived 0 untied 0 parted $3 errors 0 left 0" >"$work/wanted"
+    echo "note: written $1 events $2 links 0 lots 0 derived 0 untied 0 parted $3 errors 0 places 0 places_of_several 0 left 0" >"$work/wanted"
     if ! diff -u --label 'as it should be' --label "$2 events in $1 documents" "$work/wanted" "$work/printed"; then
         failed=1
     fi

@@ -197,8 +197,33 @@ def find_gaps(events):
     return gaps, used, unseen, missed
 
 
+def find_unlinked(events):
+    """The containers that a site shipped on and that another one packed from which they never came, each with what that put in and the
+    site doesn't know of."""
+    known, found = knowing(events), {}
+    for site, own in events.items():
+        places = {place for event in own if event["kind"] == "ship" for place in event["to"]} - {site}
+        sent = set().union(*(closed(shipped(own, place), edges_of(known[site])) for place in places))
+        for who, container in itertools.product(SITES, sent):
+            children = {child for parent, child in packed(events[who]) - edges_of(known[site]) if parent == container}
+            if children:
+                found[site, container, who] = children
+    return found
+
+
+def moments(events, site, container, by):
+    """When a site first packed something into a container, and when another one last shipped it on."""
+    edges = edges_of(knowing(events)[site])
+    fills = lambda event: event["kind"] == "pack" and event["action"] == "ADD" and event["parent"] == container
+    ships = lambda event: event["kind"] == "ship" and set(event["to"]) - {site} and container in closed(event["items"], edges)
+    first = next(n for n, event in enumerate(events[by]) if fills(event))
+    last = max(n for n, event in enumerate(events[site]) if ships(event))
+    return {"packed_at": time_of(f"{by}-{first}"), "shipped_at": time_of(f"{site}-{last}")}
+
+
 def gaps(folder, events):
     found, used, unseen, _ = find_gaps(events)
+    unlinked = find_unlinked(events)
     place = lambda it: (SITES.index(it[0]), key(it[1]), SITES.index(it[2]) if it[2:] else 0)
     lines = [f"gap packed {s} {key(p)} by {by} items {len(found[s, p, by])}" for s, p, by in sorted(found, key=place)]
     lines += [f"gap used {s} {key(c)} items {len(used[s, c])}" for s, c in sorted(used, key=place)]
@@ -207,13 +232,21 @@ def gaps(folder, events):
     lines += [f"total packed {len(found)} items {items} used {len(used)} unseen {len(unseen)}"]
     same(f"gaps {folder}", ask("gaps", folder).splitlines(), lines)
     same("gaps: what is advised", "past the site" in beside, bool(found))
+    same("gaps: what is counted", [line for line in beside.splitlines() if line.startswith("unlinked ")], [f"unlinked {len(unlinked)}"] * bool(unlinked))
+    more = [f"gap unlinked {s} {key(p)} by {by} items {len(unlinked[s, p, by])}" for s, p, by in sorted(unlinked, key=place)]
+    same(f"gaps {folder} --all", ask("gaps", folder, "--all").splitlines(), [*lines[:-1], *more, f"{lines[-1]} unlinked {len(unlinked)}"])
+    same("gaps --all: what is counted", "unlinked" in beside, False)
     wanted = {
         "items": items,
-        "packed": [{"by": by, "item": key(p), "items": len(found[s, p, by]), "site": s} for s, p, by in sorted(found, key=place)],
+        "lots": [],
+        "packed": [{"by": by, "item": key(p), "items": len(found[s, p, by]), "site": s} | moments(events, s, p, by) for s, p, by in sorted(found, key=place)],
+        "unlinked": None,
         "unseen": [{"from": u, "item": key(i), "site": s} for s, i, u in sorted(unseen, key=place)],
         "used": [{"item": key(c), "items": len(used[s, c]), "site": s} for s, c in sorted(used, key=place)],
     }
     same(f"gaps {folder} --json", json.loads(ask("gaps", folder, "--json", "--exit-code", status=5 if found or used or unseen else 0)), wanted)
+    wanted["unlinked"] = [{"by": by, "item": key(p), "items": len(unlinked[s, p, by]), "site": s} for s, p, by in sorted(unlinked, key=place)]
+    same(f"gaps {folder} --all --json", json.loads(ask("gaps", folder, "--all", "--json")), wanted)
 
 
 def closing(site, events):
@@ -248,16 +281,22 @@ def packs(folder, events):
     same(f"trace {copy}", {way[0] for way in ways}, set(steps(relate(events, knowing(events))[0], root)))
 
 
-def misses(folder, events, recall, root):
-    """What a recall misses: the pairs that its root reaches by all that is known of packings and not by the sites' own ones, each with
-    a recall that holds it; and what so left the traced sites, and no report of a recall tells."""
+def missed_by(folder, events, root):
+    """What a recall of the root misses: the pairs that it reaches by all that is known of packings and not by the sites' own ones, each
+    with a recall that holds it; and what so left the traced sites, and no report of a recall tells."""
     (related, out), (further, far) = relate(events), relate(events, knowing(events))
     near, wide = set(steps(related, root)), set(steps(further, root))
     place = lambda it: (SITES.index(it[0]), key(it[1]), *it[2:])
     order = lambda name: (SITES.index(name.split("#")[0]), int(name.split("#")[1]))
     held = {pair: min((name for name, begin in named[folder] if pair in set(steps(related, begin))), key=order, default=None) for pair in wide - near}
     told = near.union(*(steps(related, begin) for _, begin in named[folder]))
-    left = [it for it in sorted(far, key=place) if it[:2] in wide and not (it in out and it[:2] in told)]
+    return {pair: held[pair] for pair in sorted(held, key=place)}, [it for it in sorted(far, key=place) if it[:2] in wide and not (it in out and it[:2] in told)]
+
+
+def misses(folder, events, recall, root):
+    """What a recall misses."""
+    held, left = missed_by(folder, events, root)
+    place = lambda it: (SITES.index(it[0]), key(it[1]), *it[2:])
     lines = [f"gap missed {s} {key(i)}" + (f" held by {held[s, i]}" if held[s, i] else "") for s, i in sorted(held, key=place)]
     lines += [f"gap left {s} {key(i)} at:{to}" for s, i, to in left]
     lines += [f"total missed {len(held)} held {sum(map(bool, held.values()))} left {len(left)}"]
@@ -276,6 +315,20 @@ def hold_missed(what, pairs, missed):
     counts = collections.Counter(site for site, _ in missed & set(pairs))
     told = [line for line in beside.splitlines() if line.startswith("missed ")]
     same(f"{what}: what is missed", told, [f"missed {counts[site]} at {site}" for site in SITES if counts[site]])
+
+
+def hold_reach(what, folder, events, root, pairs):
+    """Behind that stands in how many containers they went, how much of the root isn't told by that, and which recalls hold it."""
+    found, _, _, missed = find_gaps(events)
+    here, known = missed & set(pairs), knowing(events)
+    touched = lambda site, children: any((site, item) in here for child in children for item in closed({child}, edges_of(known[site])))
+    place = lambda it: (SITES.index(it[0]), key(it[1]), SITES.index(it[2]))
+    counts = collections.Counter((site, by) for site, parent, by in sorted(found, key=place) if touched(site, found[site, parent, by]))
+    wanted = [f"containers {count} at {site} by {by}" for (site, by), count in counts.items()]
+    held, left = missed_by(folder, events, root) if here else ({}, [])
+    wanted += [f"untold pairs {list(held.values()).count(None)} outside {len(left)}"] * bool(held or left)
+    wanted += [f"held by {recall} {count}" for recall, count in collections.Counter(filter(None, held.values())).items()]
+    same(f"{what}: what isn't told", [line for line in beside.splitlines() if line.split(" ")[0] in ("containers", "untold", "held")], wanted)
 
 
 def lying_in(events, item):
@@ -420,6 +473,29 @@ def relating(events, first, second):
     return "made", [taken, next(n for n, other in enumerate(own) if gives(own[taken], other))]
 
 
+def packings(events, site, item, place):
+    """How an item came to lie in what an event of the site ships to another one: each thing that it was put into, from the item on
+    outwards, with the first event that did so. By as few as lead to what is told to be shipped: the item, or else the first by key."""
+    own = events[site]
+    event = own[relating(events, (site, item), (place, item))[1][0]]
+    carriers = [it for it in event["items"] if item in inside(own, it)]
+    carrier = item if item in carriers else min(carriers, key=lambda it: key(it).encode())
+    puts = lambda e, inner, outer: e["kind"] == "pack" and e["action"] == "ADD" and e["parent"] == outer and inner in e["children"]
+    around = collections.defaultdict(set)
+    for inner, outer in {(child, parent) for parent, child in packed(own)}:
+        around[inner].add(outer)
+    return steps(around, item)[carrier] - 1, carrier, lambda inner, outer: next(n for n, e in enumerate(own) if puts(e, inner, outer))
+
+
+def hold_packings(what, events, site, item, place, told):
+    """The packings that are told are such, by pairs of what the item was put into and the event's number."""
+    count, carrier, first = packings(events, site, item, place)
+    same(f"{what}: how many packings", len(told), count)
+    same(f"{what}: what was shipped", told[-1][0] if told else key(item), key(carrier))
+    for (inner, _), (outer, number) in zip([(key(item), 0), *told], told):
+        same(f"{what}: a packing", number, first(inner[4:], outer[4:]) + 1)
+
+
 def leaving(events, site, item, place):
     """The first event of the site that ships the item, or what it lies in, to a place, and what of that event it left with."""
     own = events[site]
@@ -429,24 +505,36 @@ def leaving(events, site, item, place):
 
 
 def hold_events(what, text, ways, events, gone=()):
-    """With --events the first events that relate its pair to the one before stand behind each pair of a way, and behind each
-    shipment out of the traced sites the first event that shows it."""
-    wanted = []
+    """With --events the first events that relate its pair to the one before stand behind each pair of a way, and behind a shipment how
+    the item came to lie in what was shipped; and behind each shipment out of the traced sites the first event that shows it."""
+    told = text.splitlines()[:0:-1]
+
+    def expect(line):
+        same(f"{what} --events", told.pop() if told else None, line)
+
+    def expect_event(site, n, words):
+        expect(f"    by {n + 1} ni:///{site}-{n} {time_of(f'{site}-{n}')} {words}")
+
     for found, way, _ in ways:
-        wanted.append(f"pair {found[0]} {key(found[1])}")
+        expect(f"pair {found[0]} {key(found[1])}")
         for place, it in enumerate(way):
-            wanted.append(f"  {place + 1} {it[0]} {key(it[1])}")
+            expect(f"  {place + 1} {it[0]} {key(it[1])}")
             if place > 0:
+                site, item = way[place - 1]
                 kind, places = relating(events, way[place - 1], it)
                 for n in sorted(set(places), key=places.index):
-                    name = f"{way[place - 1][0]}-{n}"
-                    wanted.append(f"    by {n + 1} ni:///{name} {time_of(name)} {kind}")
+                    expect_event(site, n, kind)
+                packs = []
+                while kind == "shipped" and told and " packed into " in told[-1]:
+                    into, number = told[-1].split(" packed into ")[1], int(told[-1].split()[1])
+                    expect_event(site, number - 1, f"packed into {into}")
+                    packs.append((into, number))
+                if kind == "shipped":
+                    hold_packings(what, events, site, item, it[0], packs)
     for site, item, place in gone:
         n, carrier = leaving(events, site, item, place)
-        name = f"{site}-{n}"
-        wanted.append(f"outside {site} {key(item)} at:{place}")
-        wanted.append(f"    by {n + 1} ni:///{name} {time_of(name)} shipped" + ("" if carrier == item else f" in {key(carrier)}"))
-    same(f"{what} --events", text.splitlines()[1 : 1 + len(wanted)], wanted)
+        expect(f"outside {site} {key(item)} at:{place}")
+        expect_event(site, n, "shipped" + ("" if carrier == item else f" in {key(carrier)}"))
 
 
 def hold_events_json(what, text, ways, events, gone):
@@ -462,6 +550,13 @@ def hold_events_json(what, text, ways, events, gone):
 
     wanted = [[step(way[-2], way[-1])] if len(way) > 1 else [] for _, way, _ in ways]
     told = json.loads(text)
+    for (_, way, _), shown in zip(ways, told["pairs"]):
+        for it in shown["events"]:
+            if it["kind"] == "shipped":
+                site, item = way[-2]
+                packs = it.pop("packings")
+                same(f"{what} --events --json: packings", [p["event"] for p in packs], [event(site, p["event"]["number"] - 1) for p in packs])
+                hold_packings(what, events, site, item, way[-1][0], [(p["into"], p["event"]["number"]) for p in packs])
     same(f"{what} --events --brief --json", [p["events"] for p in told["pairs"]], wanted)
     left = []
     for site, item, place in gone:
@@ -487,11 +582,13 @@ def trace(folder, events):
             wanted = steps(related, root)
             hold_missed(what, wanted, missed)
             hold_inside(what, events, item)
+            hold_reach(what, folder, events, root, wanted)
             same(f"{what}: head", head, ("forward", root))
             hold_ways(what, ways, wanted, related, False)
             gone = [it for it in sorted(out, key=lambda it: (SITES.index(it[0]), key(it[1]), it[2])) if it[:2] in wanted]
             left = [["outside", s, "uri", i, f"at:{place}"] for s, i, place in gone]
             same(f"{what}: the rest", rest, [*left, ["total", str(len(wanted)), "outside", str(len(left))]])
+            hold_contents(what, ask("trace", folder, site, item, "--contents"), events, related, out, root, missed)
             text_back = ask("trace", folder, site, item, "--back")
             head, ways_back, rest = read_trace(text_back)
             wanted = steps(converse, root)
@@ -514,6 +611,21 @@ def trace(folder, events):
     same("no EPC", ask("trace", folder, "north", "x 1", status=1), "refused BadEpc\n")
     same("no key", ask("trace", folder, "north", "x1", "--key", status=1), "refused BadKey\n")
     same("no scan", ask("trace", folder, "north", "x1", "--scan", status=1), "refused BadScan NoElements\n")
+
+
+def hold_contents(what, text, events, related, out, root, missed):
+    """With --contents also stands what those items reach that lie in it, at its site."""
+    all_of_them = {**related, root: related[root] | {(root[0], item) for item in lying_in(events, root[1])}}
+    wider = collections.defaultdict(set, all_of_them)
+    head, ways, rest = read_trace(text)
+    wanted = steps(wider, root)
+    hold_missed(f"{what} --contents", wanted, missed)
+    same(f"{what} --contents: head", head, ("forward", root))
+    hold_ways(f"{what} --contents", ways, wanted, wider, False)
+    gone = [it for it in sorted(out, key=lambda it: (SITES.index(it[0]), key(it[1]), it[2])) if it[:2] in wanted]
+    left = [["outside", s, "uri", i, f"at:{place}"] for s, i, place in gone]
+    same(f"{what} --contents: the rest", rest, [*left, ["total", str(len(wanted)), "outside", str(len(left))]])
+    same(f"{what} --contents: what lies in it", "inside " in beside, False)
 
 
 def list_items(folder, events, quarantined):
@@ -562,6 +674,7 @@ def recall_one(folder, events, site, item):
     reached, missed = steps(relate(events)[0], (site, item)), find_gaps(events)[3]
     hold_missed("a dry start", reached, missed)
     hold_inside("a dry start", events, item)
+    hold_reach("a dry start", folder, events, (site, item), reached)
     same("a dry start", fingerprint(folder), before)
     did = ask("start", folder, site, item).split()
     hold_inside("a start", {site: events[site]}, item)
@@ -603,6 +716,7 @@ def recall_one(folder, events, site, item):
     report = ask("report", folder, recall).splitlines()
     hold_missed(f"report {recall}", steps(relate(events)[0], (site, item)), find_gaps(events)[3])
     hold_inside(f"report {recall}", events, item)
+    hold_reach(f"report {recall}", folder, events, (site, item), steps(relate(events)[0], (site, item)))
     traced = ask("trace", folder, site, item).splitlines()
     same("a report and a trace", report[1:], traced[1:])
     same("a report and a trace --brief", ask("report", folder, recall, "--brief").splitlines()[1:], ask("trace", folder, site, item, "--brief").splitlines()[1:])

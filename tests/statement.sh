@@ -250,6 +250,7 @@ def spec_mentions(path, text, own=None):
 def ghost_uses(path, own=''):
     """What the ghost imports of a file bring in, but for those of other items of it."""
     text = bare(path)
+    text = re.sub(r'(?m)^ghost use [^;]*;', lambda use: ' '.join(use.group().split()), text)
     flat = re.sub(r'(?m)^ .*$', '', text)
     uses = {}
     for match in list(USE.finditer(flat)) + list(USE.finditer(own)):
