@@ -2,12 +2,8 @@
 
 ghost use Rattle.std.specs.Prelude.{◌≡◌, count_by, IfOk, length, option_map};
 ghost use Rattle.serde_json.specs.View.{items_view, view};
-ghost use Rattle.event_json.specs.Members.{member_named};
 ghost use Rattle.event_json.specs.Untraced.{in_order, listed_events};
 ghost use Rattle.document_convert.specs.Accounts.{
-  elements_by,
-  elements_in,
-  elements_of,
   elements_from,
   count_if,
   event_count,
@@ -25,12 +21,12 @@ ghost use Rattle.document_convert.specs.Respelled.{spells_otherwise_by};
 ghost use Rattle.document_convert.specs.UnitLots.{is_untied};
 
 use crate::declared_errors::is_declared;
+use crate::elements::elements_of;
 use crate::event_lists::events_of;
 use crate::parted::has_parts;
 use crate::placed::{Question, has_destination};
 use crate::quantities::has_quantities;
 use crate::respelling::{Speller, spells_otherwise_by};
-use crate::types::{member_named, type_text};
 use crate::unit_lots::is_untied;
 use event_json::Sites;
 use serde_json::{Value, json};
@@ -370,43 +366,4 @@ pub(crate) fn quantities(document: &Value) -> u64
         count = count.saturating_add(elements_of(event));
     }
     count
-}
-
-/// How many those of an event have.
-fn elements_of(event: &Value) -> u64
-    ensures { result ≡ elements_of (view event.now) }
-{
-    match type_text(event) {
-        Some(kind) => elements_by(event, kind),
-        None => 0,
-    }
-}
-
-/// How many those of an event of a type have.
-fn elements_by(event: &Value, kind: &str) -> u64
-    ensures { result ≡ elements_by (view event.now) kind.now }
-{
-    match kind {
-        "ObjectEvent" => elements_in(event, "quantityList"),
-        "AggregationEvent" => elements_in(event, "childQuantityList"),
-        "TransformationEvent" => {
-            let ins = elements_in(event, "inputQuantityList");
-            ins.saturating_add(elements_in(event, "outputQuantityList"))
-        }
-        _ => 0,
-    }
-}
-
-/// How many elements a member has, where it is a list.
-#[tactic(auto, using(event_json::proofs::Lists::items_count))]
-fn elements_in(event: &Value, name: &str) -> u64
-    ensures { result ≡ elements_in (member_named name.now (view event.now)) }
-{
-    let Some(list) = member_named(event, name) else {
-        return 0;
-    };
-    match list.as_array() {
-        Some(list) => list.len() as u64,
-        None => 0,
-    }
 }

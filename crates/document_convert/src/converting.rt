@@ -27,14 +27,7 @@ ghost use Rattle.document_convert.specs.Converted.{
   AreLinesOf,
   IsConverted,
   IsLineOf,
-  if_asked,
-  in_light_parts,
 };
-ghost use Rattle.document_convert.specs.DeclaredErrors.{document_with_errors_kept};
-ghost use Rattle.document_convert.specs.LightParts.{is_light_document};
-ghost use Rattle.document_convert.specs.Linked.{document_with_links};
-ghost use Rattle.document_convert.specs.Lotted.{document_with_lots};
-ghost use Rattle.document_convert.specs.Placed.{document_with_places};
 ghost use Rattle.document_convert.specs.Texts.{
   Piece,
   begins,
@@ -51,13 +44,10 @@ ghost use Rattle.document_convert.specs.Texts.{
 use crate::accounts::{
     Account, Counts, errors_of, event_count, links_of, parted_of, places_of, quantities, untied_of,
 };
-use crate::declared_errors::document_with_errors_kept;
-use crate::document_parts::{alone, in_parts};
+use crate::asked::{kept_if, linked_if, lotted_if, parts_if, placed_if};
 use crate::documents::documents_in;
 use crate::light_parts::is_light_document;
-use crate::linked::document_with_links;
-use crate::lotted::document_with_lots;
-use crate::placed::{Question, document_with_places};
+use crate::placed::Question;
 use crate::texts::{is_blank, lines_of, unmarked, value_of};
 use event_json::{DocFault, DocFaultKind, DocField, Sites};
 use serde_json::Value;
@@ -211,69 +201,6 @@ fn no_document(line: u64, number: u64) -> Refused
         kind: DocFaultKind::NotDocument,
     };
     Refused { line, fault }
-}
-
-/// A document with the events that were declared to be errors, or as it is.
-fn kept_if(alloc: Global, document: Value, errors: bool) -> Result<Value, AllocError>
-    ensures { IfOk result
-        (λ d. view d ≡ if_asked errors document_with_errors_kept (view document)) }
-{
-    if errors {
-        document_with_errors_kept(alloc, document)
-    } else {
-        Ok(document)
-    }
-}
-
-/// A document with its units as links, or as it is.
-fn linked_if(alloc: Global, document: Value, links: bool) -> Result<Value, AllocError>
-    ensures { IfOk result (λ d. view d ≡ if_asked links document_with_links (view document)) }
-{
-    if links {
-        document_with_links(alloc, document)
-    } else {
-        Ok(document)
-    }
-}
-
-/// A document with its destinations as addresses, or as it is.
-fn placed_if(
-    alloc: Global,
-    document: Value,
-    sites: &Sites,
-    places: bool,
-) -> Result<Value, AllocError>
-    ensures { IfOk result
-        (λ d. view d ≡ if_asked places (document_with_places sites.now) (view document)) }
-{
-    if places {
-        document_with_places(alloc, sites, document)
-    } else {
-        Ok(document)
-    }
-}
-
-/// A document with its lots, or as it is.
-fn lotted_if(alloc: Global, document: Value, lots: bool) -> Result<Value, AllocError>
-    ensures { IfOk result (λ d. view d ≡ if_asked lots document_with_lots (view document)) }
-{
-    if lots {
-        document_with_lots(alloc, document)
-    } else {
-        Ok(document)
-    }
-}
-
-/// A document in parts where they repeat little, or as it is.
-fn parts_if(alloc: Global, document: Value, light: bool) -> Result<Vec<Value>, AllocError>
-    requires { light ≡ is_light_document (view document) }
-    ensures { IfOk result (λ found. map view found.items ≡ in_light_parts (view document)) }
-{
-    if light {
-        in_parts(alloc, document)
-    } else {
-        alone(alloc, document)
-    }
 }
 
 impl Converted {

@@ -3,10 +3,12 @@
 #![tactic(auto)]
 
 mod accounts;
+mod asked;
 mod converting;
 mod declared_errors;
 mod document_parts;
 mod documents;
+mod elements;
 mod event_lists;
 pub mod laws;
 mod light_parts;
