@@ -1,10 +1,10 @@
 -- The documents of a document.
-use Rattle.std.proofs.Common.{◌≡◌, ◌⊎◌, ◌≤◌, ◌<◌, ℕ, suc, ◌+◌, ◌*◌, Bool, true, false, Contains, List, [], ◌∷◌, ◌++◌, Option, Some, None, Result, Ok, Err, codes, drop, length, map, take, inl, inr, refl, sym, ap, subst, ◌∙◌, arith, append-nil, if◌then◌else◌}
-use Rattle.std.specs.Prelude.{◌||◌, nat_lt}
+use Rattle.std.proofs.Common.{◌≡◌, ◌⊎◌, ◌≤◌, ◌<◌, ℕ, ◌*◌, Bool, true, false, Contains, List, [], ◌∷◌, ◌++◌, Option, Some, None, Result, Ok, Err, codes, drop, length, take, inl, inr, refl, sym, ap, subst, ◌∙◌, arith, append-nil}
+use Rattle.std.specs.Prelude.{nat_lt}
 use Rattle.std.specs.List.{flat_map, list_any}
 use Rattle.std.proofs.lemmas.Bool.{ltb-false}
 use Rattle.std.proofs.lemmas.List.{take_all}
-use Rattle.serde_json.specs.Data.{Data, object, string, Items, no_items, item, Members, no_members}
+use Rattle.serde_json.specs.Data.{Data, object, string, Items, Members, no_members}
 use Rattle.serde_json.specs.Find.{get}
 use Rattle.serde_json.specs.View.{items_of}
 use Rattle.event_json.specs.Checks.{type_text}
@@ -12,13 +12,12 @@ use Rattle.event_json.specs.Documents.{event_list, listed}
 use Rattle.event_json.specs.declared.doc_faults.DocFault.{DocFault}
 use Rattle.event_json.specs.Untraced.{in_order, is_text, listed_events}
 use Rattle.document_convert.specs.Documents.{body_of, document_around}
-use Rattle.document_convert.specs.Parted.{are_long, bare_in_parts, documents_around, event_parts, has_parts, in_parts, numbers, of_each, thousand, thousands}
+use Rattle.document_convert.specs.Parted.{are_long, documents_around, event_parts, has_parts, in_parts, numbers, thousand, thousands}
 use Rattle.document_convert.specs.PartLaws.{DocumentsAreParted, IsOfType}
 use Rattle.document_convert.specs.Types.{with_member}
 use Rattle.document_convert.proofs.Around.{around_type}
 use Rattle.document_convert.proofs.EventParts.{in_one}
 use Rattle.document_convert.proofs.Has.{cases, from_map, none_has}
-use Rattle.document_convert.proofs.EachLaws.{its_type}
 use Rattle.document_convert.proofs.Lists.{listed_back}
 use Rattle.document_convert.proofs.Members.{other_member}
 use Rattle.document_convert.proofs.NoLots.{alone_list, both_none, its_list}

@@ -1,22 +1,21 @@
 -- The parts of an event.
-use Rattle.std.proofs.Common.{◌≡◌, ◌⊎◌, ◌≤◌, ◌<◌, ℕ, ◌+◌, ◌*◌, Bool, true, false, Contains, List, [], ◌∷◌, ◌++◌, Option, Some, None, bytes_eq, codes, length, map, max, inl, inr, refl, sym, ap, subst, ◌∙◌, arith, append-nil, if◌then◌else◌}
-use Rattle.std.specs.Prelude.{◌||◌, is_some, option_and_then, option_map, unwrap_or}
+use Rattle.std.proofs.Common.{◌≡◌, ◌⊎◌, ◌≤◌, ℕ, ◌+◌, ◌*◌, Bool, true, false, Contains, List, [], ◌∷◌, Option, Some, None, codes, length, map, max, inl, inr, refl, sym, ap, subst, ◌∙◌, arith, append-nil, if◌then◌else◌}
+use Rattle.std.specs.Prelude.{is_some, option_and_then, option_map, unwrap_or}
 use Rattle.std.specs.List.{enumerate_from, flat_map}
 use Rattle.std.proofs.lemmas.Bool.{ltb-false}
 use Rattle.std.proofs.lemmas.List.{take_all}
-use Rattle.serde_json.specs.Data.{Data, null, boolean, number, string, array, object, Items}
+use Rattle.serde_json.specs.Data.{Data, string, array}
 use Rattle.serde_json.specs.Find.{as_str, get}
 use Rattle.serde_json.specs.View.{items_of}
 use Rattle.event_json.specs.Checks.{type_text}
-use Rattle.event_json.specs.Members.{member_named, present}
+use Rattle.event_json.specs.Members.{member_named}
 use Rattle.event_json.specs.Untraced.{is_text}
-use Rattle.document_convert.specs.Parted.{count_at, emptied, event_id, event_parts, has_parts, is_long, is_long_as, is_long_make, listed_parts, made_id, made_in_step, made_of_each, made_part, made_parts, made_with, members_at, numbers, of_each, parts_as, thousand, thousands, with_list, with_part_id, with_thousand}
+use Rattle.document_convert.specs.Parted.{count_at, emptied, event_id, event_parts, has_parts, is_long, is_long_as, listed_parts, made_id, made_in_step, made_of_each, made_part, made_parts, made_with, members_at, numbers, of_each, parts_as, thousand, with_list, with_part_id, with_thousand}
 use Rattle.document_convert.specs.PartLaws.{IsInThousands, IsOfType}
 use Rattle.document_convert.proofs.Has.{cases, from_flat_map, from_map, none_has}
 use Rattle.document_convert.proofs.Members.{other_member}
 use Rattle.document_convert.proofs.Beside.{same_member}
-use Rattle.document_convert.proofs.MovedLaws.{set_there}
-use Rattle.document_convert.proofs.PartLemmas.{IsAt, apart, are_enough, at_most, each_at, enumerate_at, flat_each, from_enumerate, id_others, list_set, members_same, numbered_lists, single_at, thousands_all}
+use Rattle.document_convert.proofs.PartLemmas.{apart, are_enough, at_most, each_at, enumerate_at, flat_each, from_enumerate, id_others, list_set, members_same, numbered_lists, single_at, thousands_all}
 
 -- ---- parts, or none
 

@@ -1,12 +1,10 @@
 -- A lot has one spelling, and two lots have two.
 use Rattle.std.proofs.lemmas.List.{append_cancel_left}
-use Rattle.std.proofs.Common.{if◌then◌else◌, ◌≡◌, ◌≢◌, ◌++◌, ◌∷◌, [], ◌<◌, ℕ, Bool, true, false, List, Option, Some, None, Result, Ok, Err, length, take, drop, codes, refl, sym, ap, ◌∙◌, subst, arith}
+use Rattle.std.proofs.Common.{◌≡◌, ◌++◌, ℕ, List, Option, Some, None, Result, Ok, Err, length, take, drop, codes, refl, sym, ap, ◌∙◌, subst}
 use Rattle.std.specs.Prelude.{option_and_then, option_map}
-use Rattle.std.specs.List.{list_all}
 use Rattle.percent_encoding.specs.Percent.{percent_decode}
 use Rattle.epc_core.specs.declared.items.EpcFault.{EpcFault}
-use Rattle.epc_core.specs.Items.{behind, key_of, sgtin_key, uri_key}
-use Rattle.epc_core.specs.Numbers.{IsChecked}
+use Rattle.epc_core.specs.Items.{behind, sgtin_key}
 use Rattle.epc_core.specs.Reading.{reading}
 use Rattle.epc_core.specs.Spellings.{Spells}
 use Rattle.epc_core.proofs.Cuts.{behind_some}

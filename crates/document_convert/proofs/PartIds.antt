@@ -1,5 +1,5 @@
 -- The identifiers of parts.
-use Rattle.std.proofs.Common.{◌≡◌, ◌⊎◌, ◌≤◌, ◌<◌, ℕ, suc, ◌+◌, ◌*◌, ◌^◌, Bool, true, false, Contains, List, [], ◌∷◌, ◌++◌, Option, Some, None, bytes_eq, codes, length, inl, inr, refl, sym, ap, subst, ◌∙◌, arith, if◌then◌else◌}
+use Rattle.std.proofs.Common.{◌≡◌, ◌⊎◌, ◌≤◌, ◌<◌, ℕ, ◌^◌, Bool, true, false, Contains, List, [], ◌∷◌, ◌++◌, Option, Some, None, bytes_eq, codes, length, inl, inr, refl, sym, ap, subst, ◌∙◌, arith, if◌then◌else◌}
 use Rattle.std.specs.Prelude.{nat_le, option_and_then}
 use Rattle.std.specs.Fmt.{decimal}
 use Rattle.std.proofs.lemmas.Bool.{le-leb, leb-true}
@@ -9,7 +9,6 @@ use Rattle.serde_json.specs.Find.{as_str, get}
 use Rattle.event_json.specs.Checks.{type_text}
 use Rattle.event_json.specs.Members.{member_named, present}
 use Rattle.event_json.specs.Untraced.{is_text}
-use Rattle.document_convert.specs.LotEvents.{short}
 use Rattle.document_convert.specs.Parted.{event_id, event_parts, has_parts, is_long_as, listed_parts, made_parts, part_id, parts_as, with_event_id, with_part_id}
 use Rattle.document_convert.specs.PartLaws.{IsNth, PartsAreNumbered, nth_id}
 use Rattle.document_convert.proofs.Beside.{same_member}

@@ -1,27 +1,25 @@
 -- Nothing gets lost in parts, and each input still leads to each output.
-use Rattle.std.proofs.Common.{◌≡◌, ◌⊎◌, ◌≤◌, ◌<◌, ℕ, suc, ◌+◌, ◌*◌, ◌^◌, Bool, true, false, Contains, List, [], ◌∷◌, ◌++◌, Option, Some, None, bytes_eq, codes, length, map, max, inl, inr, refl, sym, ap, subst, ◌∙◌, arith, if◌then◌else◌}
-use Rattle.std.specs.Prelude.{◌&&◌, ◌||◌, IsSome, is_some, leb, ltb, nat_le, nat_lt, option_and_then}
-use Rattle.std.specs.Fmt.{decimal}
-use Rattle.std.specs.List.{enumerate_from, flat_map}
-use Rattle.std.proofs.lemmas.Bool.{le-leb, leb-false, leb-true, lt-ltb, ltb-false}
-use Rattle.std.proofs.lemmas.Fmt.{decimal_injective}
+use Rattle.std.proofs.Common.{◌≡◌, ◌⊎◌, ◌≤◌, ℕ, ◌*◌, Bool, true, false, Contains, List, [], ◌∷◌, ◌++◌, Option, Some, None, bytes_eq, codes, length, max, inl, inr, refl, sym, ap, subst, ◌∙◌, arith, if◌then◌else◌}
+use Rattle.std.specs.Prelude.{◌||◌, IsSome, is_some, nat_le, option_and_then}
+use Rattle.std.specs.List.{enumerate_from}
+use Rattle.std.proofs.lemmas.Bool.{le-leb, leb-true, lt-ltb}
 use Rattle.std.proofs.lemmas.Slice.Eq.{bytes_eq-Decides}
-use Rattle.serde_json.specs.Data.{Data, null, boolean, number, string, array, object, Items}
+use Rattle.serde_json.specs.Data.{Data, null, boolean, number, string, array, object}
 use Rattle.serde_json.specs.Find.{as_str, get}
 use Rattle.serde_json.specs.View.{items_of}
 use Rattle.event_json.specs.Checks.{type_text}
 use Rattle.event_json.specs.Members.{member_named, present}
 use Rattle.event_json.specs.Untraced.{is_text}
 use Rattle.document_convert.specs.LotEvents.{short}
-use Rattle.document_convert.specs.Parted.{count_at, emptied, event_id, event_parts, has_parts, id_made, is_list, is_long, is_long_as, is_long_make, listed_parts, made_id, made_in_step, made_of_each, made_part, made_parts, made_with, members_at, numbers, of_each, part_id, parts_as, thousand, thousands, with_event_id, with_part_id, with_thousand}
-use Rattle.document_convert.specs.PartLaws.{Has, HasFewPairs, IsInThousands, IsLong, IsLongMake, IsMadeAs, IsNth, IsOfType, ListsAreParted, MakesStayWhole, NoneIsEmpty, OthersAreKept, PartsAreNumbered, nth_id}
-use Rattle.document_convert.specs.Quantities.{list_of, without_member}
+use Rattle.document_convert.specs.Parted.{count_at, emptied, event_id, event_parts, has_parts, id_made, is_long, is_long_as, listed_parts, made_id, made_in_step, made_of_each, made_part, made_parts, made_with, members_at, numbers, of_each, thousand, thousands, with_part_id, with_thousand}
+use Rattle.document_convert.specs.PartLaws.{Has, HasFewPairs, IsInThousands, IsLong, IsLongMake, IsMadeAs, IsOfType, ListsAreParted, MakesStayWhole, NoneIsEmpty, OthersAreKept}
+use Rattle.document_convert.specs.Quantities.{list_of}
 use Rattle.document_convert.proofs.Beside.{same_member}
 use Rattle.document_convert.proofs.EventParts.{emptied_others, in_one, in_several, in_thousands, ins_at, long_by, made_others, numbered, of_aggregations, of_objects, of_type, outs_at, part_ins, part_others, part_outs, some_part, type_there, unnumbered}
 use Rattle.document_convert.proofs.Has.{cases, from_flat_map, from_map, has_flat_map, has_map, none_has}
 use Rattle.document_convert.proofs.Members.{other_member}
-use Rattle.document_convert.proofs.MovedLaws.{absent_without, set_there}
-use Rattle.document_convert.proofs.PartLemmas.{apart, are_enough, at_most, below_has, enumerate_at, from_enumerate, has_enumerate, id_others, in_thousand, list_set, members_same, some_there, thousands_all}
+use Rattle.document_convert.proofs.MovedLaws.{set_there}
+use Rattle.document_convert.proofs.PartLemmas.{apart, are_enough, at_most, from_enumerate, has_enumerate, id_others, in_thousand, list_set, members_same, some_there, thousands_all}
 
 -- ---- the identifier of a transformation
 

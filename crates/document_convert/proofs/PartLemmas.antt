@@ -1,5 +1,5 @@
 -- Parts by their numbers, and what stands in each.
-use Rattle.std.proofs.Common.{◌≡◌, ◌⊎◌, ◌≤◌, ◌<◌, ℕ, zero, suc, ◌+◌, ◌-◌, ◌*◌, ◌/◌, ◌%◌, Bool, true, false, ltb, Contains, List, [], ◌∷◌, ◌++◌, Option, Some, None, bytes_eq, codes, drop, length, map, take, inl, inr, refl, sym, ap, subst, ◌∙◌, arith, append-nil, append_assoc}
+use Rattle.std.proofs.Common.{◌≡◌, ◌⊎◌, ◌≤◌, ◌<◌, ℕ, zero, suc, ◌+◌, ◌-◌, ◌*◌, Bool, true, false, ltb, Contains, List, [], ◌∷◌, ◌++◌, Option, Some, None, bytes_eq, codes, drop, length, map, take, inl, inr, refl, sym, ap, subst, ◌∙◌, arith}
 use Rattle.std.specs.Prelude.{option_and_then, unwrap_or}
 use Rattle.std.specs.List.{enumerate_from, flat_map}
 use Rattle.std.proofs.lemmas.Bool.{ltb-false, ltb-true}
@@ -11,7 +11,7 @@ use Rattle.serde_json.specs.Find.{as_array, get}
 use Rattle.serde_json.specs.View.{items_of}
 use Rattle.event_json.specs.Members.{member_named, present}
 use Rattle.event_json.specs.Untraced.{in_order}
-use Rattle.document_convert.specs.Parted.{event_id, members_at, numbers, of_each, part_id, thousand, thousands, with_event_id, with_list, with_part_id}
+use Rattle.document_convert.specs.Parted.{members_at, numbers, of_each, part_id, thousand, thousands, with_event_id, with_list, with_part_id}
 use Rattle.document_convert.proofs.Has.{cases, here, none_has, there}
 use Rattle.document_convert.proofs.Lists.{listed_back}
 use Rattle.document_convert.proofs.Members.{other_member}

@@ -1,9 +1,8 @@
 -- What is within the limits has no parts, as what a capture reads.
-use Rattle.std.proofs.Common.{◌≡◌, ◌≤◌, ◌<◌, ℕ, suc, ◌+◌, ◌*◌, Bool, true, false, Contains, List, [], ◌∷◌, Option, Some, None, Result, Ok, Err, bytes_eq, codes, length, refl, sym, ap, subst, ◌∙◌, arith, if◌then◌else◌}
+use Rattle.std.proofs.Common.{◌≡◌, ◌≤◌, ℕ, suc, ◌+◌, ◌*◌, Bool, true, false, Contains, List, [], ◌∷◌, Option, Some, None, Result, Ok, Err, bytes_eq, codes, length, refl, sym, ap, ◌∙◌, arith}
 use Rattle.std.specs.Prelude.{⊤, ◌&&◌, ◌||◌, is_some, nat_le, nat_lt, option_and_then, unwrap_or}
 use Rattle.std.specs.List.{list_any}
 use Rattle.std.proofs.lemmas.Bool.{ltb-true}
-use Rattle.std.proofs.lemmas.Option.{same_Some}
 use Rattle.serde_json.specs.Data.{Data, Items, no_items, item}
 use Rattle.serde_json.specs.Find.{as_array, as_object}
 use Rattle.event_json.specs.Checks.{action_checked, action_of, event_type, head_of, type_named, type_text, without_declaration, without_quantities}
@@ -12,23 +11,23 @@ use Rattle.event_json.specs.declared.doc_faults.DocField.{DocField}
 use Rattle.event_json.specs.declared.doc_faults.DocField.TheVariants as fields
 use Rattle.event_json.specs.declared.doc_faults.Flaw.{Flaw}
 use Rattle.event_json.specs.declared.documents.Doc.{Doc}
-use Rattle.event_json.specs.Documents.{document_of, event_list, listed, numbered_event}
+use Rattle.event_json.specs.Documents.{document_of, event_list, numbered_event}
 use Rattle.event_json.specs.EventReading.{aggregation_event, event_of, event_of_type, object_event, parent_of, transformation_event}
 use Rattle.event_json.specs.Events.{Content}
 use Rattle.event_json.specs.Faults.{◌>>=◌}
 use Rattle.event_json.specs.ItemLists.{epcs_of, limit_checked}
-use Rattle.event_json.specs.Members.{count_of, each, list_of, member_named, member_of}
+use Rattle.event_json.specs.Members.{count_of, each, list_of, member_of}
 use Rattle.event_json.specs.Names.{field_name}
 use Rattle.event_json.specs.Sites.{Site}
 use Rattle.event_json.specs.Untraced.{in_order, is_text}
 use Rattle.event_json.proofs.Listed.{read_of}
-use Rattle.document_convert.specs.Parted.{are_long, event_parts, has_parts, in_parts, is_list, is_long, is_long_as, made_id, count_at, members_at}
+use Rattle.document_convert.specs.Parted.{has_parts, in_parts, is_list, is_long, is_long_as, made_id, count_at, members_at}
 use Rattle.document_convert.specs.PartLaws.{IsWithin, WithinStays}
 use Rattle.document_convert.proofs.DocumentParts.{bare_stays, none_in_list}
 use Rattle.document_convert.proofs.EventParts.{in_one, ins_at, outs_at}
 use Rattle.document_convert.proofs.Has.{here, there}
 use Rattle.document_convert.proofs.NoLots.{alone_list, both_none, its_list, no_other}
-use Rattle.document_convert.proofs.ReadLaws.{ReadList, read_list, same_Ok}
+use Rattle.document_convert.proofs.ReadLaws.{read_list, same_Ok}
 use Rattle.document_convert.proofs.Settled.{is_document}
 
 -- ---- an event within the limits

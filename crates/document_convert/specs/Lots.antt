@@ -1,5 +1,5 @@
 -- Which lot a text spells: a GTIN with a batch or lot number (GS1 General Specifications, application identifiers 01 and 10).
-use Rattle.std.specs.Prelude.{is_none, ◌≡◌, ℕ, Bool, ◌==◌, if◌then◌else◌, List, [], ◌∷◌, ◌++◌, length, take, drop, codes, Option, Some, None, option_and_then, option_map, unwrap_or, Result, Ok, Err}
+use Rattle.std.specs.Prelude.{is_none, ◌≡◌, ℕ, ◌==◌, if◌then◌else◌, List, [], ◌++◌, length, take, drop, codes, Option, Some, None, option_and_then, option_map, unwrap_or, Result, Ok, Err}
 use Rattle.std.specs.Option.{option_or}
 use Rattle.epc_core.specs.Items.{behind, parted, sgtin_key}
 use Rattle.epc_core.specs.Numbers.{IsChecked}

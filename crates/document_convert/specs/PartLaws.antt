@@ -2,7 +2,7 @@
 use Rattle.std.specs.Prelude.{◌≡◌, ◌⊎◌, ◌<◌, ◌≤◌, ◌+◌, ◌*◌, ◌^◌, ℕ, codes, Contains, List, [], ◌∷◌, ◌++◌, drop, length, take, Some, None, Ok, IsSome}
 use Rattle.std.specs.Fmt.{decimal}
 use Rattle.std.specs.List.{flat_map}
-use Rattle.serde_json.specs.Data.{Data, Items, array, string}
+use Rattle.serde_json.specs.Data.{Data, Items, string}
 use Rattle.serde_json.specs.Find.{get}
 use Rattle.event_json.specs.Checks.{type_text}
 use Rattle.event_json.specs.Documents.{document_of, event_list}

@@ -1,5 +1,5 @@
 -- Lots that a recall holds at one site and not at another one that names them.
-use Rattle.std.proofs.Common.{◌≡◌, ◌↔◌, ◌⊎◌, inl, inr, ℕ, List, [], Option, None, Some, is_none, refl, sym, ap, subst, ⊎_elim, Bor}
+use Rattle.std.proofs.Common.{◌↔◌, ◌⊎◌, inl, inr, ℕ, List, [], Option, None, Some, is_none, refl, sym, ap, subst, ⊎_elim, Bor}
 use mathlib.Core.Bool.{false≢true}
 use Rattle.std.specs.List.{Contains}
 use Rattle.std.specs.Prelude.{IsTrue}

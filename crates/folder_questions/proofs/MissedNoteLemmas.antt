@@ -1,5 +1,5 @@
 -- what is noted of pairs that are missed
-use Rattle.std.proofs.Common.{◌≡◌, ◌≢◌, ◌↔◌, ℕ, List, [], length, inl, inr, refl, sym, subst}
+use Rattle.std.proofs.Common.{◌≡◌, ◌↔◌, ℕ, List, length, subst}
 use Rattle.std.specs.List.{Contains}
 use Rattle.gap_core.specs.Inside.{AreInside}
 use Rattle.gap_core.specs.Missed.{IsMissedPair}

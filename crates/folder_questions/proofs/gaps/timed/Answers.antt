@@ -1,4 +1,4 @@
-use Rattle.std.proofs.Common.{◌∙◌, List, ap, arith, subst, sym, length}
+use Rattle.std.proofs.Common.{List, ap, arith, subst, sym, length}
 use Rattle.std.specs.List.{AllZip}
 use Rattle.trace_core.specs.Chains.{sites_at}
 use Rattle.gap_core.specs.LineEvents.{AreEventsOf}

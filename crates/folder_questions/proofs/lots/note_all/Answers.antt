@@ -1,9 +1,9 @@
-use Rattle.std.proofs.Common.{◌≡◌, ◌∙◌, sym, subst}
+use Rattle.std.proofs.Common.{◌≡◌}
 use Rattle.std.specs.List.{Contains}
 use Rattle.query_core.proofs.Keeping.{InList, first_item, no_item_left}
 use Rattle.site_core.specs.ItemSets as set
 use Rattle.item_spellings.specs.LotParts.{IsLot}
-use Rattle.folder_questions.proofs.LotLemmas.{left_begins, left_ends, left_goes_on, lots_parted}
+use Rattle.folder_questions.proofs.LotLemmas.{left_ends, left_goes_on, lots_parted}
 use Rattle.folder_questions.proofs.lots.note_all.Goals as goal
 
 pub loop-item-preserved : goal.loop-item-preserved

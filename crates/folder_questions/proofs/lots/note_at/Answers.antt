@@ -1,4 +1,4 @@
-use Rattle.std.proofs.Common.{rules, ◌≡◌, ◌∙◌, ℕ, List, sym, ap₂}
+use Rattle.std.proofs.Common.{◌≡◌, ◌∙◌, ℕ, List, sym, ap₂}
 use Rattle.std.specs.List.{Contains}
 use Rattle.gap_core.proofs.Additions.{adds_alike, adds_one}
 use Rattle.trace_core.specs.declared.pairs.Pair.{Pair}

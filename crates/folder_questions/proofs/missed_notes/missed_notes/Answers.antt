@@ -1,8 +1,6 @@
-use Rattle.std.proofs.Common.{◌≡◌, ◌≢◌, ◌∙◌, List, [], ap, sym, subst, inl, inr, ⊎_elim}
-use Rattle.gap_core.specs.Touched.{AreTouchedLines}
+use Rattle.std.proofs.Common.{◌∙◌, List, ap, sym, subst, inl, inr, ⊎_elim}
 use Rattle.site_recovery.specs.Checking.{records_at}
 use Rattle.trace_core.specs.Chains.{sites_at}
-use Rattle.trace_core.specs.Sites.{SiteEvents}
 use Rattle.trace_core.specs.declared.pairs.Pair.{Pair}
 use Rattle.folder_questions.specs.MissedNotes.{AreMissedOf, IsReachBeside}
 use Rattle.folder_questions.proofs.NoneLemmas.{nothing_is, something_is}

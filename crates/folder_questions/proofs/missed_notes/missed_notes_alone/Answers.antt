@@ -1,4 +1,4 @@
-use Rattle.std.proofs.Common.{◌≡◌, ◌==◌, ◌∙◌, List, [], length, ap, refl, subst, sym}
+use Rattle.std.proofs.Common.{◌==◌, ◌∙◌, List, length, ap, refl, subst, sym}
 use mathlib.Core.Bool.{false≢true}
 use Rattle.std.proofs.lemmas.Bool.{eqb-true}
 use Rattle.site_recovery.specs.Checking.{records_at}

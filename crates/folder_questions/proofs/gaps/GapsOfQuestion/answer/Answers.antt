@@ -1,11 +1,10 @@
-use Rattle.std.proofs.Common.{◌≡◌, ◌↔◌, ◌∙◌, ℕ, List, Option, None, Some, Bor, refl, ap, subst, sym, option_map, length}
+use Rattle.std.proofs.Common.{◌↔◌, ◌∙◌, ℕ, List, refl, ap, subst, option_map}
 use Rattle.std.specs.List.{AllZip, Contains}
 use Rattle.gap_core.specs.Lines.{AreGapLines, AreUsedLines}
 use Rattle.gap_core.specs.Unlinked.{AreUnlinkedLines}
 use Rattle.gap_core.specs.Unseen.{IsUnseen}
 use Rattle.gap_core.specs.declared.lines.GapLine.{GapLine}
 use Rattle.gap_core.specs.declared.unseen.UnseenItem.{UnseenItem}
-use Rattle.recall_outcomes.specs.declared.notes.Notes.{Notes}
 use Rattle.site_recovery.specs.Laws.{captured_of}
 use Rattle.site_recovery.specs.Checking.{records_at}
 use Rattle.trace_core.specs.Chains.{sites_at}
