@@ -26,6 +26,8 @@ pub(crate) fn lot_gaps(alloc: Global, records: &[&SiteState]) -> Result<Vec<Pair
     for state in records {
         note_held(alloc, state.quarantine(), &mut lots)?;
     }
+    // A lot that is held under many recalls is looked for once.
+    let lots = in_order(lots)?;
     let mut found = Vec::new(alloc);
     for lot in lots.as_slice() {
         note_lot(alloc, records, lot, &mut found)?;
