@@ -42,8 +42,8 @@ impl Question for DryStart<'_> {
     ghost asks = { λ q sites asked. AsksItem q.site.now q.item sites asked.0 asked.1 };
 
     // What the start of a recall of the item would do at the site; and noted beside it how the records contradict
-    // each other, or, where they don't, just those pairs that the item reaches that are missed, and how many items lie
-    // in it.
+    // each other, or, where they don't, just those pairs that the item reaches that are missed, in which containers
+    // these went, what that leaves untold and which recall holds it, and how many items lie in the item.
     ghost answers = { λ q asked rs told. AnswersDryStart rs asked.0 asked.1 told.0 told.1 };
 
     fn read(

@@ -42,8 +42,8 @@ impl Question for ReportOf<'_> {
 
     // The recall's report, where it is asked for with the events behind the steps that are told and behind what left
     // the traced sites, and `UnknownRecall` exactly where no site began the recall; and noted beside it how the records
-    // contradict each other, or, where they don't, just those of its pairs that are missed, and how many items lie in
-    // the recalled one.
+    // contradict each other, or, where they don't, just those of its pairs that are missed, in which containers these
+    // went, what that leaves untold and which recall holds it, and how many items lie in the recalled one.
     ghost answers = { λ q recall rs told.
         AnswersReport rs recall q.ways q.events told.0 told.1 };
 

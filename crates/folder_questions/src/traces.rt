@@ -52,7 +52,8 @@ impl Question for TraceOf<'_> {
 
     // A trace of the item, forward or back, or `UnknownItem` exactly where the site doesn't know it; and noted beside it
     // how the records contradict each other, or, where they don't, of a trace forward just those of its pairs that are
-    // missed, and how many items lie in the item.
+    // missed, in which containers these went, what that leaves untold and which recall holds it, and how many items lie
+    // in the item.
     ghost answers = { λ q asked rs told.
         AnswersTrace rs asked.0 asked.1 q.back q.ways q.events told.0 told.1 };
 
