@@ -121,8 +121,8 @@ impl Account {
         }
     }
 
-    /// The line that tells it, as `note: written 1 events 3 links 0 lots 2 derived 1 untied 0 parted 0 errors 0 places 0
-    /// places_of_several 0 left 0`, with its LF.
+    /// The line that tells it, as `note: written 1 events 3 links 0 lots 2 derived 1 untied 0 parted 0 errors 0
+    /// places 0 places_of_several 0 left 0`, with its LF.
     ///
     /// # Errors
     /// Where memory runs out.

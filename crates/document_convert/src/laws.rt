@@ -152,8 +152,8 @@ pub fn places_are_listed()
     ensures others { OthersHaveNone }
 {}
 
-/// A destination of an ObjectEvent becomes the address of its place, in its place, so that a capture reads this address,
-/// which is a traced site's. All else stays: each event of a document is there, in order, and no other.
+/// A destination of an ObjectEvent becomes the address of its place, where it stands, so that a capture reads this
+/// address, which is a traced site's. All else stays: each event of a document is there, in order, and no other.
 pub fn destinations_are_placed()
     ensures texts { DestinationsArePlaced }
     ensures events { EventsArePlaced }

@@ -10,8 +10,8 @@ use crate::near_misses::{behind_scheme, path_of};
 use std::alloc::{AllocError, Global};
 use std::mem;
 
-/// The digits of the GLN of the location that a text names, without its check digit, which an EPC URI leaves out; `None`
-/// where it names none.
+/// The digits of the GLN of the location that a text names, without its check digit, which an EPC URI leaves out;
+/// `None` where it names none.
 ///
 /// A location is named by an EPC URI (SGLN, GS1 EPC Tag Data Standard 2.0), by a Digital Link on any host (GS1 Digital
 /// Link URI syntax, application identifiers 414 and 254), and by the GLN alone. An extension is passed over.

@@ -31,8 +31,8 @@ pub struct GapEvents {
     pub shipped: Option<usize>,
 }
 
-/// For each of some lines the events that tell of it, in the order of the lines. Where two of the sites have one number,
-/// the first of them is looked at.
+/// For each of some lines the events that tell of it, in the order of the lines. Where two of the sites have one
+/// number, the first of them is looked at.
 ///
 /// # Errors
 /// Out of memory.

@@ -2,8 +2,8 @@
 
 ghost use Rattle.report_forms.specs.Laws.{FirstStepsAreInRows, FormulasAreGuarded, ItemsHaveNumbers, LastStepsAreInRows, OtherFieldsStay, TextsReadBack};
 
-/// A trade item has its GTIN and its serial number, a logistic unit its SSCC, a lot its GTIN and its number, and any other
-/// item none of them. The number of a lot is the one of which its text was made.
+/// A trade item has its GTIN and its serial number, a logistic unit its SSCC, a lot its GTIN and its number, and any
+/// other item none of them. The number of a lot is the one of which its text was made.
 pub fn items_have_numbers()
     ensures { ItemsHaveNumbers }
 {}
@@ -23,8 +23,8 @@ pub fn first_steps_are_in_rows()
     ensures { FirstStepsAreInRows }
 {}
 
-/// Where the events are told, a row has three fields behind the tenth that tell them, and its other fields are those that
-/// it has without.
+/// Where the events are told, a row has three fields behind the tenth that tell them, and its other fields are those
+/// that it has without.
 pub fn other_fields_stay()
     ensures { OtherFieldsStay }
 {}
